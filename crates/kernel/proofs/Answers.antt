@@ -1,0 +1,84 @@
+-- What the kernel call answers, once the signs are off: the existence test and the nine weights in naturals. Assumes
+-- nothing.
+use mathlib.Core.Path.{_≡_, refl, sym, ap, _∙_}
+use mathlib.Core.Bool.{Bool, true, false, true≢false}
+use mathlib.Core.List.{List, [], _∷_, map}
+use Prim.Native.Nat.{ℕ, _+_, _-_, _*_, _≤_, _<_, min, max}
+use native.Mathlib.Nat.{add-zero, sub-zero}
+use native.Mathlib.Omega.{arith}
+use borrow.Author.Tests.{ltb-true, lt-leb, le-leb}
+use lib.Dec.{leb}
+use lib.IntN.{ℤ, pos, negsuc, natAbs}
+use lib.Signed.{ltZ}
+use Rattle.limits.specs.Limits.{stepsInRange}
+use Rattle.limits.specs.declared.Outcome.the-variants.{Accepted, Refused}
+use Rattle.limits.specs.declared.ErrorCode.the-variants.{NoKernel}
+use Rattle.kernel.specs.Molecule.{unitsOf, sumOf, molecule, freeNumber, kernelWith, kernelOf}
+use Rattle.kernel.specs.Existence.{kernelExists}
+use Rattle.kernel.specs.Answer.{noKernel, kernelAnswer}
+use Rattle.kernel.proofs.Plain.{free, exists-plain, none-x, none-y, plain, Between, weights}
+
+pub absent : (x z y : ℤ) (k : ℕ) → stepsInRange k ≡ true → kernelExists x z y (unitsOf k) ≡ false
+    → kernelAnswer x z y k ≡ record { outcome = Refused NoKernel; kernel = noKernel }
+absent x z y k s e = rw (s, e)
+
+pub present : (x z y : ℤ) (k : ℕ) → stepsInRange k ≡ true → kernelExists x z y (unitsOf k) ≡ true
+    → kernelAnswer x z y k ≡ record { outcome = Accepted; kernel = kernelOf x z y k }
+present x z y k s e = rw (s, e)
+
+pub negative-x : (x z y : ℤ) (m : ℕ) → ltZ x (pos 0) ≡ true → kernelExists x z y m ≡ false
+negative-x (pos a) z y m h = let g = ltb-true a 0 h in absurd (omega arith)
+negative-x (negsuc a) z y m h = none-x a z y m
+
+pub negative-y : (x z y : ℤ) (m : ℕ) → ltZ y (pos 0) ≡ true → kernelExists x z y m ≡ false
+negative-y x z (pos b) m h = let g = ltb-true b 0 h in absurd (omega arith)
+negative-y x z (negsuc b) m h = none-y b x z m
+
+-- the free number of a covariance whose signs are off
+abbrev pub freeOf : ℤ → ℤ → ℤ → ℕ → ℕ
+freeOf x z y m = max (natAbs z) (natAbs x + natAbs y - m)
+
+test : (x z y : ℤ) (m : ℕ) → ltZ x (pos 0) ≡ false → ltZ y (pos 0) ≡ false
+    → kernelExists x z y m ≡ leb (freeOf x z y m) (min (natAbs x) (natAbs y))
+test (pos a) z (pos b) m h g = exists-plain a z b m
+test (pos a) z (negsuc b) m h g = absurd (true≢false g)
+test (negsuc a) z (pos b) m h g = absurd (true≢false h)
+test (negsuc a) z (negsuc b) m h g = absurd (true≢false h)
+
+module _ (x z y : ℤ) (m : ℕ) (h : ltZ x (pos 0) ≡ false) (g : ltZ y (pos 0) ≡ false) where
+  pub too-large-x : natAbs x < freeOf x z y m → kernelExists x z y m ≡ false
+  too-large-x l = test x z y m h g ∙ lt-leb (freeOf x z y m) (min (natAbs x) (natAbs y)) (omega arith)
+
+  pub too-large-y : natAbs y < freeOf x z y m → kernelExists x z y m ≡ false
+  too-large-y l = test x z y m h g ∙ lt-leb (freeOf x z y m) (min (natAbs x) (natAbs y)) (omega arith)
+
+  pub fits : freeOf x z y m ≤ natAbs x → freeOf x z y m ≤ natAbs y → kernelExists x z y m ≡ true
+  fits l r = test x z y m h g ∙ le-leb (freeOf x z y m) (min (natAbs x) (natAbs y)) (omega arith)
+
+between : (a c b m : ℕ) → max c (a + b - m) ≤ a → max c (a + b - m) ≤ b → Between a c b (max c (a + b - m)) m
+between a c b m l r = record { leans = omega arith; steps = omega arith; across = l; down = r }
+
+pub weights-of : (x z y : ℤ) (k : ℕ) → ltZ x (pos 0) ≡ false → ltZ y (pos 0) ≡ false
+    → freeOf x z y (unitsOf k) ≤ natAbs x → freeOf x z y (unitsOf k) ≤ natAbs y
+    → kernelOf x z y k ≡ record { weights = plain (natAbs x) z (natAbs y) (freeOf x z y (unitsOf k)) (unitsOf k); sum = sumOf k }
+unfolding kernelWith
+weights-of (pos a) z (pos b) k h g l r =
+    ap (λ ws. record { weights = map natAbs ws; sum = sumOf k })
+    (ap (λ f. molecule (pos a) z (pos b) f (unitsOf k)) (free a z b (unitsOf k))
+    ∙ weights a z b (freeOf (pos a) z (pos b) (unitsOf k)) (unitsOf k) (between a (natAbs z) b (unitsOf k) l r))
+weights-of (pos a) z (negsuc b) k h g l r = absurd (true≢false g)
+weights-of (negsuc a) z (pos b) k h g l r = absurd (true≢false h)
+weights-of (negsuc a) z (negsuc b) k h g l r = absurd (true≢false h)
+
+-- the two diagonals, by the sign of xy
+abbrev pub five : ℕ → ℕ → ℕ → ℕ → ℕ → ℕ → List ℕ
+five diagonal anti a b n m =
+    diagonal ∷ (2 * (b - n)) ∷ anti ∷ (2 * (a - n)) ∷ (4 * (m + n - (a + b))) ∷ (2 * (a - n)) ∷ anti ∷ (2 * (b - n)) ∷ diagonal ∷ []
+
+pub leans-down : (a : ℕ) (z : ℤ) (b n m : ℕ) → ltZ z (pos 0) ≡ true → plain a z b n m ≡ five (n - natAbs z) (n + natAbs z) a b n m
+leans-down a (pos c) b n m h = let g = ltb-true c 0 h in absurd (omega arith)
+leans-down a (negsuc c) b n m h = simp (add-zero, sub-zero)
+
+pub leans-up : (a : ℕ) (z : ℤ) (b n m : ℕ) → ltZ z (pos 0) ≡ false → plain a z b n m ≡ five (n + natAbs z) (n - natAbs z) a b n m
+leans-up a (pos c) b n m h = simp (add-zero, sub-zero)
+leans-up a (negsuc c) b n m h = absurd (true≢false h)

@@ -1,0 +1,6 @@
+-- The laws that the proofs share, and the theorems on kernels.
+pub mod Signs
+pub mod Moments
+pub mod Plain
+pub mod Answers
+pub mod Theorems

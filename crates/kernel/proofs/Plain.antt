@@ -1,0 +1,115 @@
+-- The free number, the existence test and the molecule in naturals, once the signs are off. Assumes nothing.
+use mathlib.Core.Path.{_≡_, refl, sym, ap, ap₂, _∙_}
+use mathlib.Core.Bool.{Bool, true, false, not, cond, true≢false}
+use mathlib.Core.List.{List, [], _∷_, map}
+use Prim.Native.Nat.{ℕ, zero, suc, _+_, _-_, _*_, _≤_, _<_, min, max}
+use native.Mathlib.Omega.{arith}
+use lib.Dec.{T, leb, leb→le, nleb→lt}
+use lib.IntN.{ℤ, pos, negsuc, negℤ, natAbs, _+ℤ_, _-ℤ_, _*ℤ_}
+use lib.Signed.{leZ, ltZ}
+use borrow.Author.Tests.{ltb-true}
+use Rattle.kernel.specs.Molecule.{larger, smaller, freeNumber, molecule}
+use Rattle.kernel.specs.Existence.{kernelExists}
+use Rattle.kernel.proofs.Signs.{diff, plus, minus, parts, neg-parts, sum, is-pos, is-plus}
+
+-- ---- a signed number on either side of 0
+pub turned : (v : ℤ) → ltZ v (pos 0) ≡ true → pos 0 -ℤ v ≡ pos (natAbs v)
+turned (pos n) h = let g = ltb-true n 0 h in absurd (omega arith)
+turned (negsuc n) h = ap pos (omega arith)
+
+pub unsigned : (v : ℤ) → ltZ v (pos 0) ≡ false → v ≡ pos (natAbs v)
+unsigned (pos n) h = refl
+unsigned (negsuc n) h = absurd (true≢false h)
+
+-- ---- the larger and the smaller of two
+choose : (a b : ℕ) → cond (leb a b) (pos b) (pos a) ≡ pos (max a b)
+choose a b = go (leb a b) (leb→le a b) (nleb→lt a b)
+  where
+    go : (t : Bool) → (T t → a ≤ b) → (T (not t) → b < a) → cond t (pos b) (pos a) ≡ pos (max a b)
+    go true f g = let h = f tt in ap pos (omega arith)
+    go false f g = let h = g tt in ap pos (omega arith)
+
+choose-smaller : (a b : ℕ) → cond (leb a b) (pos a) (pos b) ≡ pos (min a b)
+choose-smaller a b = go (leb a b) (leb→le a b) (nleb→lt a b)
+  where
+    go : (t : Bool) → (T t → a ≤ b) → (T (not t) → b < a) → cond t (pos a) (pos b) ≡ pos (min a b)
+    go true f g = let h = f tt in ap pos (omega arith)
+    go false f g = let h = g tt in ap pos (omega arith)
+
+larger-pos : (c : ℕ) (z : ℤ) → larger (pos c) z ≡ pos (max c (plus z))
+larger-pos c (pos n) = choose c n
+larger-pos c (negsuc n) = ap pos (omega arith)
+
+-- pos a + pos b - pos m
+over : (a b m : ℕ) → plus (pos a +ℤ pos b -ℤ pos m) ≡ a + b - m
+over a b m = ap plus (ap₂ _+ℤ_ (parts (pos (a + b))) (neg-parts (pos m)) ∙ sum (a + b) 0 0 m) ∙ is-plus (a + b + 0) (0 + m) ∙ omega arith
+
+pub free : (a : ℕ) (xy : ℤ) (b m : ℕ) → freeNumber (pos a) xy (pos b) m ≡ pos (max (natAbs xy) (a + b - m))
+free a xy b m = larger-pos (natAbs xy) (pos a +ℤ pos b -ℤ pos m) ∙ ap (λ x. pos (max (natAbs xy) x)) (over a b m)
+
+pub exists-plain : (a : ℕ) (xy : ℤ) (b m : ℕ) → kernelExists (pos a) xy (pos b) m ≡ leb (max (natAbs xy) (a + b - m)) (min a b)
+unfolding kernelExists
+exists-plain a xy b m = ap₂ leZ (free a xy b m) (choose-smaller a b)
+
+no-negative-x : (n a : ℕ) (z : ℤ) → leZ (pos n) (smaller (negsuc a) z) ≡ false
+no-negative-x n a (pos b) = refl
+no-negative-x n a (negsuc b) = go (leb b a)
+  where
+    go : (t : Bool) → leZ (pos n) (cond t (negsuc a) (negsuc b)) ≡ false
+    go true = refl
+    go false = refl
+
+no-negative-y : (n b : ℕ) (z : ℤ) → leZ (pos n) (smaller z (negsuc b)) ≡ false
+no-negative-y n b (pos a) = refl
+no-negative-y n b (negsuc a) = no-negative-x n a (negsuc b)
+
+pub none-x : (a : ℕ) (xy yy : ℤ) (m : ℕ) → kernelExists (negsuc a) xy yy m ≡ false
+unfolding kernelExists
+none-x a xy yy m = ap (λ f. leZ f (smaller (negsuc a) yy)) (larger-pos (natAbs xy) (negsuc a +ℤ yy -ℤ pos m)) ∙ no-negative-x _ a yy
+
+pub none-y : (b : ℕ) (xx xy : ℤ) (m : ℕ) → kernelExists xx xy (negsuc b) m ≡ false
+unfolding kernelExists
+none-y b xx xy m = ap (λ f. leZ f (smaller xx (negsuc b))) (larger-pos (natAbs xy) (xx +ℤ negsuc b -ℤ pos m)) ∙ no-negative-y _ b xx
+
+-- ---- the molecule, with |xy| ≤ n ≤ a, b and a + b ≤ m + n
+abbrev pub plain : ℕ → ℤ → ℕ → ℕ → ℕ → List ℕ
+plain a xy b n m =
+    (n + plus xy - minus xy) ∷ (2 * (b - n)) ∷ (n + minus xy - plus xy)
+    ∷ (2 * (a - n)) ∷ (4 * (m + n - (a + b))) ∷ (2 * (a - n))
+    ∷ (n + minus xy - plus xy) ∷ (2 * (b - n)) ∷ (n + plus xy - minus xy)
+    ∷ []
+
+pub record Between (a c b n m : ℕ) : Type 0 where
+  pub leans : c ≤ n
+  pub steps : a + b ≤ m + n
+  pub across : n ≤ a
+  pub down : n ≤ b
+
+pub plus-le : (z : ℤ) → plus z ≤ natAbs z
+plus-le (pos n) = omega arith
+plus-le (negsuc n) = omega arith
+
+pub minus-le : (z : ℤ) → minus z ≤ natAbs z
+minus-le (pos n) = omega arith
+minus-le (negsuc n) = omega arith
+
+module _ (a : ℕ) (xy : ℤ) (b n m : ℕ) (h : Between a (natAbs xy) b n m) where
+  diagonal : pos n +ℤ xy ≡ pos (n + plus xy - minus xy)
+  diagonal = ap₂ _+ℤ_ (parts (pos n)) (parts xy) ∙ sum n 0 (plus xy) (minus xy) ∙ is-pos _ _ _ (omega (arith, plus-le xy, minus-le xy))
+
+  anti : pos n -ℤ xy ≡ pos (n + minus xy - plus xy)
+  anti = ap₂ _+ℤ_ (parts (pos n)) (neg-parts xy) ∙ sum n 0 (minus xy) (plus xy) ∙ is-pos _ _ _ (omega (arith, plus-le xy, minus-le xy))
+
+  less : (x : ℕ) → n ≤ x → pos x -ℤ pos n ≡ pos (x - n)
+  less x le = ap₂ _+ℤ_ (parts (pos x)) (neg-parts (pos n)) ∙ sum x 0 0 n ∙ is-pos _ _ _ (omega arith)
+
+  centre : pos m -ℤ pos a -ℤ pos b +ℤ pos n ≡ pos (m + n - (a + b))
+  centre =
+      ap₂ _+ℤ_
+      (ap₂ _+ℤ_ (ap₂ _+ℤ_ (parts (pos m)) (neg-parts (pos a)) ∙ sum m 0 0 a) (neg-parts (pos b)) ∙ sum (m + 0) (0 + a) 0 b) (parts (pos n))
+      ∙ sum (m + 0 + 0) (0 + a + b) n 0 ∙ is-pos _ _ _ (omega arith)
+
+  -- each weight of the molecule is the natural that stands in its place: none is negative
+  pub weights : molecule (pos a) xy (pos b) (pos n) m ≡ map pos (plain a xy b n m)
+  weights =
+      rw (diagonal, anti, less a (h .across), less b (h .down), centre)

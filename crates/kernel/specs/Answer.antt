@@ -1,0 +1,36 @@
+-- What the kernel call answers for every covariance and step count. Definitions only.
+use Prim.Native.Nat.{ℕ}
+use mathlib.Core.List.{List, [], _∷_}
+use lib.ListN.{replicate}
+use lib.IntN.{ℤ, pos, natAbs}
+use lib.Signed.{ltZ}
+use Rattle.limits.specs.Limits.{stepsInRange}
+use Rattle.limits.specs.Errors.{_otherwise_, firstRefusal}
+use Rattle.limits.specs.declared.Outcome.{Outcome}
+use Rattle.limits.specs.declared.Outcome.the-variants.{Accepted, Refused}
+use Rattle.limits.specs.declared.ErrorCode.the-variants.{StepsOutOfRange, NoKernel}
+use Rattle.kernel.specs.declared.Kernel.{Kernel}
+use Rattle.kernel.specs.declared.Magnitude.{Magnitude}
+use Rattle.kernel.specs.declared.KernelAnswer.{KernelAnswer}
+use Rattle.kernel.specs.Molecule.{unitsOf, kernelOf}
+use Rattle.kernel.specs.Existence.{kernelExists}
+
+-- what stands beside a refusal: nine weights of 0
+abbrev pub noKernel : Kernel
+noKernel = record { weights = replicate 9 0; sum = 0 }
+
+abbrev pub answerWith : Outcome → Kernel → KernelAnswer
+answerWith Accepted kernel = record { outcome = Accepted; kernel = kernel }
+answerWith (Refused code) kernel = record { outcome = Refused code; kernel = noKernel }
+
+-- refusals 5 and 11, in checking order
+abbrev pub kernelChecks : ℤ → ℤ → ℤ → ℕ → Outcome
+kernelChecks xx xy yy k =
+    firstRefusal ((stepsInRange k otherwise StepsOutOfRange) ∷ (kernelExists xx xy yy (unitsOf k) otherwise NoKernel) ∷ [])
+
+abbrev pub kernelAnswer : ℤ → ℤ → ℤ → ℕ → KernelAnswer
+kernelAnswer xx xy yy k = answerWith (kernelChecks xx xy yy k) (kernelOf xx xy yy k)
+
+-- a signed number taken apart, as the code works with it
+abbrev pub magnitudeOf : ℤ → Magnitude
+magnitudeOf v = record { size = natAbs v; negative = ltZ v (pos 0) }

@@ -1,0 +1,6 @@
+-- What a kernel is: the nine offsets, the weights of the molecule, the free number, and when a kernel exists.
+pub mod Offsets
+pub mod Molecule
+pub mod Existence
+pub mod Sound
+pub mod Answer

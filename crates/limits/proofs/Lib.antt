@@ -1,0 +1,2 @@
+-- Laws that the layers above cite.
+pub mod Laws

@@ -1,0 +1,2 @@
+-- The worked cases hold.
+pub mod Cases

@@ -1,0 +1,15 @@
+//! The bench program of the reference: reads one job's text from standard
+//! input and prints what document 01 says for it.
+
+use reference::job_text::{answer, MAX_TEXT};
+use std::io::{self, Read, Write};
+
+fn main() -> io::Result<()> {
+    let mut text = Vec::new();
+    // One byte more than a job may have shows that a text is too long.
+    io::stdin()
+        .lock()
+        .take(MAX_TEXT as u64 + 1)
+        .read_to_end(&mut text)?;
+    io::stdout().lock().write_all(&answer(&text))
+}

@@ -1,0 +1,463 @@
+//! Inputs for test vectors: listed border cases, and random ones that keep
+//! close to the borders.
+
+use crate::kernel::{Covariance, UNITS};
+use crate::random::Random;
+use crate::shape::{Direction, Shape};
+
+/// Step counts outside the limits.
+const BAD_STEPS: [u32; 4] = [0, 65, 66, u32::MAX];
+
+/// The numbers at and near the ends of a signed 32-bit field.
+const EXTREMES: [i32; 9] = [
+    i32::MIN,
+    i32::MIN + 1,
+    -2,
+    -1,
+    0,
+    1,
+    2,
+    i32::MAX - 1,
+    i32::MAX,
+];
+
+fn clip(value: i64) -> i32 {
+    value.clamp(i64::from(i32::MIN), i64::from(i32::MAX)) as i32
+}
+
+fn covariance(xx: i64, xy: i64, yy: i64) -> Covariance {
+    Covariance {
+        xx: clip(xx),
+        xy: clip(xy),
+        yy: clip(yy),
+    }
+}
+
+/// A step count: mostly inside the limits and often at their ends.
+pub fn random_steps(random: &mut Random) -> u32 {
+    match random.below(16) {
+        0 => random.pick(&BAD_STEPS),
+        1..=4 => 1,
+        5 | 6 => 64,
+        7 => 2,
+        _ => random.between(1, 64) as u32,
+    }
+}
+
+/// Covariances and step counts that stand on a border, the worked ones first.
+pub fn listed_covariances() -> Vec<(Covariance, u32)> {
+    let mut list = Vec::new();
+    let worked: [(i64, i64, i64, u32); 10] = [
+        (2048, 0, 2048, 1),
+        (0, 0, 0, 1),
+        (4096, 0, 4096, 1),
+        (4097, 0, 4096, 1),
+        (4097, 0, 4096, 2),
+        (1000, 1000, 1000, 1),
+        (1000, 1001, 1000, 1),
+        (-1, 0, 0, 1),
+        (262_144, 0, 0, 64),
+        (262_144, 0, 0, 65),
+    ];
+    for (xx, xy, yy, steps) in worked {
+        list.push((covariance(xx, xy, yy), steps));
+    }
+    for steps in [1, 2, 64] {
+        let m = UNITS * i64::from(steps);
+        for (xx, xy, yy) in [
+            (m, 0, m),
+            (m + 1, 0, m),
+            (m, 0, m + 1),
+            (m, m, m),
+            (m, -m, m),
+            (m, m + 1, m),
+            (m, -m - 1, m),
+            (m, m - 1, m - 1),
+            (m, 0, 0),
+            (0, 0, m),
+            (m + 1, 0, 0),
+            (0, 0, m + 1),
+            (0, 1, 0),
+            (0, -1, 0),
+            (0, 0, -1),
+            (1, 1, 1),
+            (1, -1, 1),
+            (1, 0, 0),
+            (m / 2, 0, m / 2),
+            (m / 2 + 1, 0, m / 2),
+            (m / 2, m / 2, m / 2),
+            (m / 2, -m / 2, m / 2),
+            (m / 2, m / 2 + 1, m / 2),
+            (m - 1, 1, 2),
+            (m - 1, 1, 3),
+            (100, 150, 400),
+        ] {
+            list.push((covariance(xx, xy, yy), steps));
+        }
+    }
+    let (low, high) = (i32::MIN, i32::MAX);
+    for (xx, xy, yy) in [
+        (high, 0, high),
+        (low, 0, low),
+        (high, low, high),
+        (high, high, high),
+        (low, low, low),
+        (0, low, 0),
+        (0, high, 0),
+        (low, 0, high),
+        (high, 0, low),
+        (4096, low, 4096),
+        (0, 0, low),
+        (low, low, high),
+    ] {
+        for steps in [1, 64] {
+            list.push((Covariance { xx, xy, yy }, steps));
+        }
+    }
+    for steps in BAD_STEPS {
+        for (xx, xy, yy) in [(0, 0, 0), (2048, 0, 2048), (-1, 0, 0), (high, low, high)] {
+            list.push((Covariance { xx, xy, yy }, steps));
+        }
+    }
+    list
+}
+
+/// A covariance and a step count, mostly close to where kernels end.
+pub fn random_covariance(random: &mut Random) -> (Covariance, u32) {
+    let steps = random_steps(random);
+    let m = UNITS
+        * i64::from(if (1..=64).contains(&steps) {
+            steps
+        } else {
+            random.between(1, 64) as u32
+        });
+    let near = random.between(-2, 2);
+    let sign = random.pick(&[-1, 1]);
+    let mut xx = random.between(0, m);
+    let mut yy = random.between(0, m);
+    let mut xy;
+    match random.below(10) {
+        // |xy| near the smaller variance.
+        0 | 1 => xy = sign * (xx.min(yy) + near),
+        // The larger variance near M.
+        2 => {
+            xx = m + near;
+            xy = sign * random.between(0, yy);
+        }
+        // |xy| near xx + yy − M.
+        3 | 4 => {
+            xx = random.between(m / 2, m);
+            yy = random.between(m / 2, m);
+            xy = sign * (xx + yy - m + near);
+        }
+        // A variance near zero.
+        5 => {
+            xx = near;
+            xy = random.between(-2, 2);
+        }
+        // Small numbers.
+        6 => {
+            xx = random.between(-1, 4);
+            yy = random.between(-1, 4);
+            xy = random.between(-4, 4);
+        }
+        // The ends of the fields.
+        7 => {
+            xx = random.pick(&EXTREMES).into();
+            xy = random.pick(&EXTREMES).into();
+            yy = random.pick(&EXTREMES).into();
+        }
+        // Any numbers.
+        8 => {
+            xx = (random.bits() as i32).into();
+            xy = (random.bits() as i32).into();
+            yy = (random.bits() as i32).into();
+            let shift = random.below(32);
+            (xx, xy, yy) = (xx >> shift, xy >> shift, yy >> shift);
+        }
+        // Well inside.
+        _ => xy = random.between(-xx.min(yy), xx.min(yy)),
+    }
+    if random.once_in(2) {
+        (xx, yy) = (yy, xx);
+    }
+    if random.once_in(32) {
+        xy = -xy;
+    }
+    (covariance(xx, xy, yy), steps)
+}
+
+/// A positive finite float some places on among all floats.
+pub fn nudge(value: f64, places: i64) -> f64 {
+    f64::from_bits((value.to_bits() as i64 + places) as u64)
+}
+
+/// Floats that a variance, a cosine or a sine may wrongly be.
+fn odd_floats() -> Vec<f64> {
+    let mut list: Vec<f64> = [
+        0x7ff8_0000_0000_0000,
+        0x7ff8_0000_0000_0001,
+        0xfff8_0000_0000_0000,
+        0x7ff0_0000_0000_0001,
+        0xfff7_ffff_ffff_ffff,
+        0x7fff_ffff_ffff_ffff,
+        0xffff_ffff_ffff_ffff,
+    ]
+    .map(f64::from_bits)
+    .to_vec();
+    list.extend([
+        f64::INFINITY,
+        f64::NEG_INFINITY,
+        f64::MAX,
+        f64::MIN,
+        -f64::from_bits(1),
+        -f64::MIN_POSITIVE,
+        -1.0 / 8192.0,
+        -1.0,
+        -64.0,
+        nudge(64.0, 1),
+        65.0,
+        1e300,
+    ]);
+    list
+}
+
+/// Variances inside the limits that lie on or near a border of the conversion.
+fn border_variances() -> Vec<f64> {
+    let mut list = vec![
+        0.0,
+        -0.0,
+        f64::from_bits(1),
+        f64::from_bits(2),
+        f64::from_bits((1 << 52) - 1),
+        f64::MIN_POSITIVE,
+        1e-300,
+        1e-20,
+        1.0 / 4096.0,
+        1.0 / 16384.0,
+        0.25,
+        0.5,
+        1.0,
+        nudge(1.0, 1),
+        nudge(1.0, -1),
+        64.0,
+        nudge(64.0, -1),
+        0.1,
+        1.0 / 3.0,
+        std::f64::consts::PI,
+    ];
+    for n in [0, 1, 2, 3, 2047, 2048, 4095, 4096, 100_000, 262_143] {
+        let half = f64::from(2 * n + 1) / 8192.0;
+        list.extend([half, nudge(half, 1), nudge(half, -1)]);
+    }
+    list
+}
+
+fn oval(long: f64, short: f64, cosine: f64, sine: f64) -> Shape {
+    Shape::Oval {
+        long,
+        short,
+        direction: Direction { cosine, sine },
+    }
+}
+
+/// The axis directions, with both zeros.
+const AXES: [(f64, f64); 8] = [
+    (1.0, 0.0),
+    (1.0, -0.0),
+    (-1.0, 0.0),
+    (-1.0, -0.0),
+    (0.0, 1.0),
+    (-0.0, 1.0),
+    (0.0, -1.0),
+    (-0.0, -1.0),
+];
+
+/// The ends of the range of c·c + s·s.
+const SQUARE_ENDS: [f64; 2] = [1023.0 / 1024.0, 1025.0 / 1024.0];
+
+/// Shapes and step counts that stand on a border.
+pub fn listed_shapes() -> Vec<(Shape, u32)> {
+    let mut list = Vec::new();
+    for variance in odd_floats() {
+        list.push((Shape::Round(variance), 64));
+        list.push((Shape::Round(variance), 0));
+        list.push((oval(variance, 1.0, 1.0, 0.0), 64));
+        list.push((oval(1.0, variance, 1.0, 0.0), 64));
+        list.push((oval(1.0, 1.0, variance, 0.0), 64));
+        list.push((oval(1.0, 1.0, 0.0, variance), 64));
+        // Several faults at once: the first in checking order is answered.
+        list.push((oval(variance, 1.0, 2.0, 0.0), 0));
+        list.push((oval(1.0, 1.0, variance, variance), 65));
+    }
+    for variance in border_variances() {
+        for steps in [1, 2, 64] {
+            list.push((Shape::Round(variance), steps));
+        }
+        for (cosine, sine) in [(1.0, 0.0), (-0.0, -1.0), (1.0, 0.03125), (-1.0, 0.03125)] {
+            list.push((oval(variance, 0.0, cosine, sine), 64));
+            list.push((oval(0.0, variance, cosine, sine), 64));
+        }
+    }
+    for steps in BAD_STEPS {
+        list.push((Shape::Round(1.0), steps));
+        list.push((Shape::Round(-1.0), steps));
+        list.push((oval(2.0, 1.0, 1.0, 0.0), steps));
+        list.push((oval(2.0, 1.0, 1.0, 1.0), steps));
+        list.push((Shape::matrix(-1, 0, 0), steps));
+        list.push((Shape::matrix(2048, 0, 2048), steps));
+    }
+    for (cosine, sine) in AXES {
+        for (long, short) in [(2.0, 0.5), (0.5, 2.0), (1.0, 1.0), (64.0, 0.0), (0.0, 64.0)] {
+            list.push((oval(long, short, cosine, sine), 64));
+            list.push((oval(long, short, cosine, sine), 1));
+        }
+    }
+    for (cosine, sine) in [
+        (0.6, 0.8),
+        (0.8, -0.6),
+        (-0.6, -0.8),
+        (
+            std::f64::consts::FRAC_1_SQRT_2,
+            std::f64::consts::FRAC_1_SQRT_2,
+        ),
+        (
+            std::f64::consts::FRAC_1_SQRT_2,
+            -std::f64::consts::FRAC_1_SQRT_2,
+        ),
+        (1.0, 0.03125),
+        (0.03125, -1.0),
+        (1.0, nudge(0.03125, 1)),
+        (1.0, nudge(0.03125, -1)),
+        // The last sine whose float sum of squares is rounded to the end, and the next.
+        (1.0, nudge(0.03125, 256)),
+        (1.0, nudge(0.03125, 257)),
+        (nudge(1.0, 1), 0.0),
+        (-nudge(1.0, 1), 0.0),
+        (1.0, 1.0),
+        (0.0, 0.0),
+        (0.5, 0.5),
+        (1.0, f64::from_bits(1)),
+    ] {
+        for (long, short) in [
+            (3.0, 1.0),
+            (1.0, 3.0),
+            (64.0, 64.0),
+            (64.0, 0.0),
+            (2.0, 2.0),
+        ] {
+            list.push((oval(long, short, cosine, sine), 64));
+            list.push((oval(long, short, cosine, sine), 4));
+        }
+    }
+    // xy at exact halves of both signs: c·s is ±1/32.
+    for n in [0, 1, 2, 7, 500] {
+        let long = f64::from(2 * n + 1) / 256.0;
+        for sine in [0.03125, -0.03125] {
+            list.push((oval(long, 0.0, 1.0, sine), 64));
+            list.push((oval(0.0, long, 1.0, sine), 64));
+            list.push((oval(10.0 + long, 10.0, 1.0, sine), 64));
+            list.push((oval(10.0, 10.0 + long, 1.0, sine), 64));
+        }
+    }
+    list
+}
+
+fn random_variance(random: &mut Random) -> f64 {
+    match random.below(16) {
+        0 => random.pick(&odd_floats()),
+        1 | 2 => random.pick(&border_variances()),
+        // Near an exact half of 1/4096.
+        3..=6 => {
+            let size = random.between(1, 18);
+            let n = random.below(1 << size);
+            nudge((2 * n + 1) as f64 / 8192.0, random.between(-2, 2))
+        }
+        7 => f64::from_bits(random.bits()),
+        // Subnormal.
+        8 => f64::from_bits(random.bits() >> random.between(12, 63)),
+        9 => random.between(0, 64) as f64,
+        10 => 64.0 * random.fraction(),
+        11 => random.fraction() / 4096.0,
+        _ => 4.0 * random.fraction(),
+    }
+}
+
+fn random_direction(random: &mut Random) -> (f64, f64) {
+    // A point of the unit circle by rational functions, so that it does not
+    // depend on the machine's sines.
+    let t = random.fraction();
+    let (mut c, mut s) = ((1.0 - t * t) / (1.0 + t * t), 2.0 * t / (1.0 + t * t));
+    match random.below(16) {
+        0 => {
+            c = random.pick(&odd_floats());
+        }
+        1 => {
+            s = random.pick(&odd_floats());
+        }
+        2 | 3 => {
+            return random.pick(&AXES);
+        }
+        // The sum of squares near an end of its range.
+        4..=7 => {
+            let end = random.pick(&SQUARE_ENDS);
+            c *= random.fraction().max(0.5);
+            s = (end - c * c).sqrt();
+            if s >= 1.0 {
+                s = 1.0;
+                c = (end - 1.0).max(0.0).sqrt();
+            }
+            s = nudge(s, random.between(-4, 4));
+        }
+        8 => {
+            c = f64::from_bits(random.bits());
+            s = f64::from_bits(random.bits());
+        }
+        // Few digits, so that products are often exact.
+        9 => {
+            c = 1.0;
+            s = random.between(0, 256) as f64 / 8192.0;
+        }
+        _ => {}
+    }
+    if random.once_in(2) {
+        c = -c;
+    }
+    if random.once_in(2) {
+        s = -s;
+    }
+    if random.once_in(2) {
+        (c, s) = (s, c);
+    }
+    (c, s)
+}
+
+/// A shape and a step count.
+pub fn random_shape(random: &mut Random) -> (Shape, u32) {
+    let steps = random_steps(random);
+    match random.below(8) {
+        0 => {
+            let (covariance, steps) = random_covariance(random);
+            (Shape::Matrix(covariance), steps)
+        }
+        1 | 2 => (Shape::Round(random_variance(random)), steps),
+        kind => {
+            let (cosine, sine) = random_direction(random);
+            // Mostly inside the limits, so that the direction is reached.
+            let (long, short) = if kind == 3 {
+                (random_variance(random), random_variance(random))
+            } else {
+                let size = random.pick(&[0.01, 1.0, f64::from(steps.min(64)), 64.0]);
+                let long = size * random.fraction();
+                let short = match random.below(4) {
+                    0 => long,
+                    1 => 0.0,
+                    2 => 64.0 * random.fraction(),
+                    _ => long * (0.5 + random.fraction()),
+                };
+                (long.min(64.0), short.min(64.0))
+            };
+            (oval(long, short, cosine, sine), steps)
+        }
+    }
+}

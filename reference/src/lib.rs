@@ -1,0 +1,30 @@
+//! Reference program for the picture smoother.
+//!
+//! It is written from document 01 alone and shares no code with the proved
+//! program, so that a mistake in one of them shows as a difference between
+//! the two. It prefers the plainest way to a result over the quickest one,
+//! and where document 01 gives both a definition and a shorter test it uses
+//! the definition (the existence of a kernel) and leaves the shorter test to
+//! the tests.
+//!
+//! - [`error_code`]: the thirteen numbered refusals and the checks several calls share.
+//! - [`kernel`]: does a kernel exist, and the nine weights of the molecule.
+//! - [`shape`]: Matrix, Round and Oval to a covariance in 1/4096 square pixel.
+//! - [`smooth`]: the pixel at a place, a step, a run, the exact run and the distance from it.
+//! - [`difference`]: the five undivided differences and the directional one.
+//! - [`service`]: eight slots over a buffer pool, served by round robin.
+//! - [`job_text`]: the text of a bench job, and what the bench program prints.
+//! - [`natural`]: whole numbers of any size, for the exact run.
+//! - [`random`]: repeatable pseudo-random numbers.
+//! - [`generate`]: inputs for test vectors, border cases first.
+
+pub mod difference;
+pub mod error_code;
+pub mod generate;
+pub mod job_text;
+pub mod kernel;
+pub mod natural;
+pub mod random;
+pub mod service;
+pub mod shape;
+pub mod smooth;
