@@ -1,8 +1,9 @@
 // What every call shares: the error codes (document 01: refusals), the outcome of a call, and the checks on step counts,
 // sides and lengths that several calls make.
 ghost use mathlib.Core.Path.{_≡_};
+ghost use Prim.Native.Nat.{_*_};
 ghost use Rattle.limits.specs.Errors.{numberOf, outcomeNumber};
-ghost use Rattle.limits.specs.Limits.{withinOf, stepsInRange, sideInRange, sidesInRange, fillsPicture};
+ghost use Rattle.limits.specs.Limits.{withinOf, stepsInRange, sideInRange, sidesInRange, fillsPicture, fitsBuffer};
 
 // Document 01's thirteen refusals, in its order; `numberOf` gives each its number.
 pub enum ErrorCode {
@@ -85,9 +86,21 @@ pub fn sides_in_range(width: u32, height: u32) -> bool
     }
 }
 
-// The product of two sides is formed in 64 bits, where it cannot wrap.
+// The number of pixels of an image, formed in 64 bits, where it cannot wrap.
+pub fn area(width: u32, height: u32) -> usize
+    ensures { λ r. ⌜ r ≡ width * height ⌝ }
+{
+    (width as usize) * (height as usize)
+}
+
 pub fn fills_picture(length: usize, width: u32, height: u32) -> bool
     ensures { λ r. ⌜ r ≡ fillsPicture length width height ⌝ }
 {
-    length == (width as usize) * (height as usize)
+    length == area(width, height)
+}
+
+pub fn fits_buffer(width: u32, height: u32) -> bool
+    ensures { λ r. ⌜ r ≡ fitsBuffer width height ⌝ }
+{
+    area(width, height) <= 1024
 }

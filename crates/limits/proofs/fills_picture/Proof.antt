@@ -1,20 +1,13 @@
--- `limits::fills_picture` meets its contract: two numbers below 2 ^ 32 have a product below 2 ^ 64. Assumes nothing.
+-- `limits::fills_picture` meets its contract: the area is the product of the sides. Assumes nothing.
 use borrow.Author.Needs.{needs}
-use native.Mathlib.Nat.{lt-of-le-of-lt, le-of-lt, mul-le-mul-left, mul-lt-mul-of-pos-right}
-use lib.Dec.{lit<}
 use Rattle.limits.proofs.fills_picture.Statement.{statement}
 use Rattle.limits.proofs.fills_picture.Tie as tie
 
-mul-result : tie.Need-mul-result
-mul-result c =
-    record {
-      fits =
-          lt-of-le-of-lt (mul-le-mul-left (c .args .width) (le-of-lt (c .fits .height .fits)))
-          (mul-lt-mul-of-pos-right (c .fits .width .fits) (lit< tt));
-    }
+area-requires : tie.Need-area-requires
+area-requires c κs = search needs
 
 returns : tie.Need-returns
-returns c = search needs
+returns c = rw (c .area .ensures)
 
 pub fills-picture-spec : {M : Type 1} → statement M
-fills-picture-spec = tie.close (tie.spec mul-result returns)
+fills-picture-spec = tie.close (tie.spec area-requires returns)

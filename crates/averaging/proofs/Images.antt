@@ -1,0 +1,107 @@
+-- Images by their entries: how many an image has, which stands at a column and a row, and that an image is given by its
+-- entries. Over any type of entries: pixels, signed differences, floats. Assumes nothing.
+use mathlib.Core.Path.{_≡_, refl, sym, ap, ap₂, subst, _∙_}
+use mathlib.Core.Logic.{_⊎_, inl, inr}
+use mathlib.Core.List.{List, [], _∷_, _++_}
+use Prim.Native.Nat.{ℕ, zero, suc, _+_, _-_, _*_, _/_, _%_, _≤_, _<_, min}
+use native.Mathlib.Nat.{mul-one, mul-comm, mul-le-mul-right, le-of-suc-le-suc, not-suc-le-zero, eq-or-lt-of-le}
+use native.Mathlib.Nat.{div-add-mod', div-lt-iff-lt-mul, mod-lt}
+use native.Mathlib.Omega.{arith}
+use lib.ListN.{length, getD, length-append, List·getD-append}
+use lib.Seq.{getD-append-add, ext-getD}
+use lib.IntN.{ℤ, pos, negsuc}
+use Rattle.image.specs.Image.{nearestPlace, pixelAt, entries, rows, imageOf}
+
+-- ---- places
+
+-- column x of row y is one of the w × h places
+pub place-lt : (w h x y : ℕ) → x < w → y < h → y * w + x < w * h
+place-lt w h x y a b = let g : suc y * w ≤ h * w = mul-le-mul-right w b in omega arith
+
+-- what holds at every column and row holds at every place
+pub every-place : (w h : ℕ) (P : ℕ → Type 0) → ((x y : ℕ) → x < w → y < h → P (y * w + x)) → (i : ℕ) → i < w * h → P i
+every-place zero h P f i l = absurd (omega (arith, l))
+every-place (suc w) h P f i l =
+    subst P (div-add-mod' i (suc w))
+    (f (i % suc w) (i / suc w) (mod-lt i (omega arith)) (div-lt-iff-lt-mul (omega arith) .1 (rw (mul-comm h (suc w)) l)))
+
+-- the nearest of n places is one of them
+pub nearest-lt : (n : ℕ) (z : ℤ) → 1 ≤ n → nearestPlace n z < n
+nearest-lt n (pos i) l = omega arith
+nearest-lt n (negsuc i) l = l
+
+-- ---- entries
+module _ {A : Type 0} where
+  -- n rows of w entries each have n × w entries
+  pub length-rows : (n w : ℕ) (f : ℕ → List A) → ((y : ℕ) → length (f y) ≡ w) → length (rows n f) ≡ n * w
+  unfolding rows
+  length-rows zero w f e = omega arith
+  length-rows (suc n) w f e = length-append (rows n f) (f n) ∙ omega (arith, length-rows n w f e, e n)
+
+  -- and entry x of row y stands at y × w + x
+  pub row-entry : (n w : ℕ) (f : ℕ → List A) (d : A) → ((y : ℕ) → length (f y) ≡ w) → (x y : ℕ) → x < w → y < n
+      → getD (rows n f) (y * w + x) d ≡ getD (f y) x d
+  unfolding rows
+  row-entry zero w f d e x y a b = absurd (not-suc-le-zero b)
+  row-entry (suc n) w f d e x y a b = go (row-entry n w f d e x y a) (eq-or-lt-of-le (le-of-suc-le-suc b))
+    where
+      go : (y < n → getD (rows n f) (y * w + x) d ≡ getD (f y) x d) → (y ≡ n) ⊎ (y < n)
+          → getD (rows n f ++ f n) (y * w + x) d ≡ getD (f y) x d
+      go before (inl q) =
+          ap (λ k. getD (rows n f ++ f n) k d) (omega (arith, length-rows n w f e, ap (λ k. k * w) q))
+          ∙ getD-append-add (rows n f) (f n) x d ∙ ap (λ k. getD (f k) x d) (sym q)
+      go before (inr l) =
+          let m : suc y * w ≤ n * w = mul-le-mul-right w l in
+          List·getD-append (rows n f) (f n) d (y * w + x) (omega (arith, length-rows n w f e)) ∙ before l
+
+  -- entries are rows of one entry each
+  as-rows : (n : ℕ) (f : ℕ → A) → entries n f ≡ rows n (λ i. f i ∷ [])
+  unfolding entries rows
+  as-rows zero f = refl
+  as-rows (suc n) f = ap (λ l. l ++ (f n ∷ [])) (as-rows n f)
+
+  -- f 0, .. f (n − 1) are n entries
+  pub length-entries : (n : ℕ) (f : ℕ → A) → length (entries n f) ≡ n
+  length-entries n f = ap length (as-rows n f) ∙ length-rows n 1 (λ i. f i ∷ []) (λ i. refl) ∙ mul-one n
+
+  -- and entry i is f i
+  pub entry : (n : ℕ) (f : ℕ → A) (d : A) (i : ℕ) → i < n → getD (entries n f) i d ≡ f i
+  entry n f d i l =
+      ap₂ (λ es k. getD es k d) (as-rows n f) (omega arith) ∙ row-entry n 1 (λ i. f i ∷ []) d (λ i. refl) 0 i (omega arith) l
+
+  -- an image has h rows of w entries, so w × h entries
+  pub length-by-rows : (w h : ℕ) (f : ℕ → ℕ → A) → length (imageOf w h f) ≡ h * w
+  length-by-rows w h f = length-rows h w (λ y. entries w (λ x. f x y)) (λ y. length-entries w (λ x. f x y))
+
+  pub length-image : (w h : ℕ) (f : ℕ → ℕ → A) → length (imageOf w h f) ≡ w * h
+  length-image w h f = length-by-rows w h f ∙ mul-comm h w
+
+  -- the entry at column x and row y
+  pub image-entry : (w h : ℕ) (f : ℕ → ℕ → A) (d : A) (x y : ℕ) → x < w → y < h → getD (imageOf w h f) (y * w + x) d ≡ f x y
+  image-entry w h f d x y a b =
+      row-entry h w (λ y. entries w (λ x. f x y)) d (λ y. length-entries w (λ x. f x y)) x y a b ∙ entry w (λ x. f x y) d x a
+
+  -- a list of w × h entries is the image of its entries
+  pub image-of-entries : (w h : ℕ) (d : A) (l : List A) (f : ℕ → ℕ → A) → length l ≡ w * h
+      → ((x y : ℕ) → x < w → y < h → getD l (y * w + x) d ≡ f x y) → l ≡ imageOf w h f
+  image-of-entries w h d l f e same =
+      ext-getD d l (imageOf w h f) (e ∙ sym (length-image w h f))
+      (λ i m. every-place w h (λ i. getD l i d ≡ getD (imageOf w h f) i d)
+      (λ x y a b. same x y a b ∙ sym (image-entry w h f d x y a b)) i (omega (arith, e, m)))
+
+-- ---- pixels
+
+-- the pixel at a place inside
+pub pixel-inside : (w h : ℕ) (pixels : List ℕ) (x y : ℕ) → x < w → y < h → pixelAt w h pixels (pos x) (pos y) ≡ getD pixels (y * w + x) 0
+unfolding pixelAt
+pixel-inside w h pixels x y a b =
+    let p : min x (w - 1) ≡ x = omega arith in
+    let q : min y (h - 1) ≡ y = omega arith in
+    rw (p, q)
+
+-- the pixel of an image at any place is the entry at the nearest place
+pub pixel-of-image : (w h : ℕ) (f : ℕ → ℕ → ℕ) (x y : ℤ) → 1 ≤ w → 1 ≤ h
+    → pixelAt w h (imageOf w h f) x y ≡ f (nearestPlace w x) (nearestPlace h y)
+unfolding pixelAt
+pixel-of-image w h f x y a b =
+    image-entry w h f 0 (nearestPlace w x) (nearestPlace h y) (nearest-lt w x a) (nearest-lt h y b)

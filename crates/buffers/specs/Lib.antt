@@ -1,0 +1,2 @@
+-- What is asked of places in the store.
+pub mod Places

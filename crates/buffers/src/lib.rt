@@ -1,0 +1,82 @@
+// The buffer pool in code (document 01: the store): copies into it and out of it, and a step from one of its places to
+// another. An inner crate: its functions ask of their callers that the places lie inside.
+ghost use mathlib.Core.Path.{_≡_};
+ghost use Prim.Native.Nat.{_+_, _*_, _≤_};
+ghost use lib.ListN.{length, take};
+ghost use Rattle.limits.specs.Limits.{bufferPixels};
+ghost use Rattle.averaging.specs.Steps.{stepOf};
+ghost use Rattle.stepping.specs.Step.{StepKernel};
+ghost use Rattle.machine.specs.Store.{part, put};
+ghost use Rattle.buffers.specs.Places.{Between};
+use kernel::Kernel;
+
+fn copy(source: &[u16], target: &mut [u16])
+    requires { ⌜ length (now source) ≡ length (now target) ⌝ }
+    ensures { λ _. ⌜ now (target .exit) ≡ now (source .entry) ⌝ }
+{
+    let mut i = 0usize;
+    while i < source.len() {
+        target[i] = source[i];
+        i += 1;
+    }
+}
+
+// The pixels, put into the store from a place on.
+pub fn copy_in(store: &mut [u16], start: usize, pixels: &[u16])
+    requires { ⌜ start + length (now pixels) ≤ length (now store) ⌝ }
+    ensures { λ _. ⌜ now (store .exit) ≡ put start (now (pixels .entry)) (now (store .entry)) ⌝ }
+{
+    let end = start + pixels.len();
+    copy(pixels, &mut store[start..end]);
+}
+
+// As many pixels of the store as the other slice has, from a place on.
+pub fn copy_out(store: &[u16], start: usize, pixels: &mut [u16])
+    requires { ⌜ start + length (now pixels) ≤ length (now store) ⌝ }
+    ensures { λ _. ⌜ now (pixels .exit) ≡ part start (length (now (pixels .entry))) (now (store .entry)) ⌝ }
+{
+    let end = start + pixels.len();
+    copy(&store[start..end], pixels);
+}
+
+// The front of an array of a buffer's length. (A local array made where it is used would stand in every goal, element by
+// element.)
+fn lifted(pixels: &[u16]) -> [u16; 1024]
+    requires { ⌜ length (now pixels) ≤ bufferPixels ⌝ }
+    ensures { λ r. ⌜ (length r ≡ bufferPixels) × (take (length (now (pixels .entry))) r ≡ now (pixels .entry)) ⌝ }
+{
+    let mut buffer = [0u16; 1024];
+    let mut i = 0usize;
+    while i < pixels.len() {
+        buffer[i] = pixels[i];
+        i += 1;
+    }
+    buffer
+}
+
+// One step of the picture at one place of the store, to another place. Two parts of one slice cannot be lent at once, so the
+// picture is copied first: its own pixels and no more.
+pub fn step_between(
+    store: &mut [u16],
+    from: usize,
+    to: usize,
+    width: usize,
+    height: usize,
+    kernel: Kernel,
+)
+    requires { ⌜ StepKernel kernel ⌝ }
+    requires { ⌜ Between (length (now store)) from to width height ⌝ }
+    ensures { λ _. ⌜ now (store .exit) ≡ put to (stepOf kernel width height (part from (width * height) (now (store .entry)))) (now (store .entry)) ⌝ }
+{
+    let pixels = width * height;
+    let from_end = from + pixels;
+    let to_end = to + pixels;
+    let buffer = lifted(&store[from..from_end]);
+    stepping::step(
+        &buffer[0..pixels],
+        &mut store[to..to_end],
+        width,
+        height,
+        kernel,
+    );
+}

@@ -1,0 +1,98 @@
+-- Worked cases: halves of both signs, the ends of the ranges, and the order of the refusals. Each table has one computed
+-- proof. Assumes nothing.
+use mathlib.Core.Path.{_≡_, refl}
+use mathlib.Core.Bool.{true, false}
+use mathlib.Core.List.{List, [], _∷_, map}
+use Prim.Native.Nat.{ℕ}
+use lib.IntN.{ℤ, pos, negsuc}
+use lib.Ieee.{Float, nan, inf, fin, binary64, ofBits, add, sub, mul, le}
+use Rattle.limits.specs.Errors.{firstRefusal, outcomeNumber}
+use Rattle.kernel.specs.Existence.{kernelExists}
+use Rattle.covariance.specs.declared.Direction.{Direction}
+use Rattle.covariance.specs.declared.Shape.{Shape}
+use Rattle.covariance.specs.declared.Shape.the-variants.{Matrix, Round, Oval}
+use Rattle.covariance.specs.declared.Covariance.{Covariance}
+use Rattle.covariance.specs.Floats.{inRange}
+use Rattle.covariance.specs.Units.{nearestUnits}
+use Rattle.covariance.specs.Shapes.{varianceInRange, cosineInRange, squareInRange, directionInRange, variancesFine, directionFine, covarianceXX, covarianceXY, covarianceYY}
+use Rattle.covariance.specs.Answer.{covarianceAnswer, shapeKernelChecks}
+
+-- ---- a float, and 4096 times it to the nearest whole number; half a unit is 1 × 2 ^ −13
+abbrev pub roundings : List (Float × ℤ)
+roundings =
+    (fin true 0 (pos 0), pos 0)
+    ∷ (fin false 1 (negsuc 12), pos 1)
+    ∷ (fin true 1 (negsuc 12), pos 0)
+    ∷ (fin false 3 (negsuc 12), pos 2)
+    ∷ (fin true 3 (negsuc 12), negsuc 0)
+    -- next to a half: 0.49999999999999994 units, and as little past −0.5
+    ∷ (ofBits binary64 0x3f1f_ffff_ffff_ffff, pos 0)
+    ∷ (ofBits binary64 0xbf20_0000_0000_0001, negsuc 0)
+    -- the smallest floats
+    ∷ (fin false 1 (negsuc 1073), pos 0)
+    ∷ (fin true 1 (negsuc 1073), pos 0)
+    ∷ (fin false 1 (pos 6), pos 262144)
+    ∷ []
+
+pub rounded : map (λ row. nearestUnits (row .0)) roundings ≡ map (λ row. row .1) roundings
+unfolding nearestUnits ofBits
+rounded = refl
+
+-- ---- a shape, and what it gives
+abbrev pub towards : Float → Float → Direction
+towards c s = record { cosine = c; sine = s }
+
+abbrev pub one : Float
+one = fin false 1 (pos 0)
+
+abbrev pub zero : Float
+zero = fin false 0 (pos 0)
+
+-- the float nearest to the square root of 1023/1024, whose square is 1023/1024 as a float, and the next below it
+abbrev pub lowest : Float
+lowest = ofBits binary64 0x3fef_fbff_bff7_fec0
+
+abbrev pub too-low : Float
+too-low = ofBits binary64 0x3fef_fbff_bff7_febf
+
+abbrev pub covariances : List (Shape × Covariance)
+covariances =
+    -- long 2, short 1, cosine 0.6, sine 0.8; and with the variances exchanged
+    (Oval (fin false 1 (pos 1)) one (towards (ofBits binary64 0x3fe3_3333_3333_3333) (ofBits binary64 0x3fe9_9999_9999_999a)), Covariance.Entries (pos 5571) (pos 1966) (pos 6717))
+    ∷ (Oval one (fin false 1 (pos 1)) (towards (ofBits binary64 0x3fe3_3333_3333_3333) (ofBits binary64 0x3fe9_9999_9999_999a)), Covariance.Entries (pos 6717) (negsuc 1965) (pos 5571))
+    -- past 64 square pixels: (c·c) + (s·s) is 1025/1024
+    ∷ (Oval (fin false 1 (pos 6)) (fin false 1 (pos 6)) (towards one (fin false 1 (negsuc 4))), Covariance.Entries (pos 262400) (pos 0) (pos 262400))
+    ∷ []
+
+pub covered : map (λ row. covarianceAnswer (row .0)) covariances ≡ map (λ row. row .1) covariances
+unfolding variancesFine directionFine varianceInRange directionInRange cosineInRange squareInRange inRange covarianceXX covarianceXY covarianceYY nearestUnits ofBits add sub mul le
+covered = refl
+
+-- ---- a shape and a step count, and the number of the first refusal that applies to the kernel of the two
+abbrev pub requests : List (Shape × ℕ × ℕ)
+requests =
+    (Round nan, 0, 3)
+    ∷ (Round (inf false), 1, 3)
+    ∷ (Round (inf true), 1, 3)
+    ∷ (Round (fin true 0 (pos 0)), 1, 0)
+    ∷ (Round (fin true 1 (negsuc 1073)), 1, 3)
+    ∷ (Round (fin false 1 (pos 6)), 64, 0)
+    ∷ (Round (ofBits binary64 0x4050_0000_0000_0001), 64, 3)
+    ∷ (Oval nan one (towards (fin false 1 (pos 1)) zero), 0, 3)
+    ∷ (Oval one nan (towards (fin false 1 (pos 1)) zero), 0, 3)
+    ∷ (Oval one one (towards (fin false 1 (pos 1)) zero), 0, 4)
+    ∷ (Oval one one (towards nan one), 1, 4)
+    ∷ (Oval one one (towards one nan), 1, 4)
+    ∷ (Oval one one (towards one one), 1, 4)
+    ∷ (Oval one one (towards lowest zero), 2, 0)
+    ∷ (Oval one one (towards too-low zero), 2, 4)
+    ∷ (Oval one one (towards one (fin false 1 (negsuc 4))), 3, 0)
+    ∷ (Oval one one (towards one zero), 0, 5)
+    ∷ (Oval (fin false 1 (pos 6)) (fin false 1 (pos 6)) (towards one (fin false 1 (negsuc 4))), 64, 11)
+    ∷ (Matrix (negsuc 2147483647) (negsuc 2147483647) (negsuc 2147483647), 65, 5)
+    ∷ (Matrix (pos 2147483647) (pos 0) (pos 2147483647), 64, 11)
+    ∷ []
+
+pub requested : map (λ row. outcomeNumber (firstRefusal (shapeKernelChecks (row .0) (row .1)))) requests ≡ map (λ row. row .2) requests
+unfolding variancesFine directionFine varianceInRange directionInRange cosineInRange squareInRange inRange covarianceXX covarianceXY covarianceYY nearestUnits kernelExists ofBits add sub mul le
+requested = refl

@@ -1,0 +1,13 @@
+-- The laws that the proofs share, and the theorems on shapes.
+pub mod Negation
+pub mod Fractions
+pub mod Exact
+pub mod Wholes
+pub mod Halves
+pub mod Sizes
+pub mod Answers
+pub mod HalfUnit
+pub mod Ranges
+pub mod Zeros
+pub mod Axes
+pub mod Cases

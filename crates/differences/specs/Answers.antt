@@ -1,0 +1,28 @@
+-- What the calls answer, and what they leave in the lent result. Definitions only.
+use mathlib.Core.List.{List, [], _∷_}
+use Prim.Native.Nat.{ℕ}
+use Rattle.limits.specs.Limits.{sidesInRange, fillsPicture}
+use Rattle.limits.specs.Errors.{Check, _otherwise_}
+use Rattle.limits.specs.declared.ErrorCode.the-variants.{NotADirection, SideOutOfRange, WrongLength}
+use Rattle.limits.specs.declared.Outcome.{Outcome}
+use Rattle.limits.specs.declared.Outcome.the-variants.{Accepted, Refused}
+use Rattle.covariance.specs.declared.Direction.{Direction}
+use Rattle.covariance.specs.Shapes.{directionInRange}
+
+-- refusals 6 and 9, in checking order, of a lent picture and a lent result of so many entries
+abbrev pub differenceChecks : ℕ → ℕ → ℕ → ℕ → List Check
+differenceChecks picture result w h =
+    (sidesInRange w h otherwise SideOutOfRange)
+    ∷ (fillsPicture picture w h otherwise WrongLength)
+    ∷ (fillsPicture result w h otherwise WrongLength)
+    ∷ []
+
+-- refusals 4, 6 and 9, in checking order
+abbrev pub directionalChecks : Direction → ℕ → ℕ → ℕ → ℕ → List Check
+directionalChecks d picture result w h = (directionInRange d otherwise NotADirection) ∷ differenceChecks picture result w h
+
+-- what the lent result holds at the end: what was made where the call is accepted, and else what it held ("every lent buffer
+-- keep their contents")
+abbrev pub heldAfter : {A : Type 0} → Outcome → List A → List A → List A
+heldAfter Accepted made before = made
+heldAfter (Refused code) made before = before

@@ -1,0 +1,200 @@
+-- A submit at a place with the invariant: its answer is the one that the calls and answers before it give, and it keeps the
+-- invariant. Assumes nothing.
+use mathlib.Core.Path.{_≡_, refl, sym, _∙_, ap}
+use mathlib.Core.Bool.{Bool, true, false, not, cond, true≢false}
+use mathlib.Core.Logic.{_⊎_, inl, inr, ⊎-elim}
+use mathlib.Core.List.{List, [], _∷_}
+use Prim.Native.Nat.{ℕ, zero, suc, _+_, _-_, _*_, _≤_, _<_}
+use native.Mathlib.Nat.{sub-zero}
+use native.Mathlib.Numerals.{add-one}
+use native.Mathlib.Omega.{arith}
+use borrow.Author.Tests.{eq-eqb, ne-eqb, eqb-true, ltb-true}
+use lib.Dec.{eqb, ltb, leb}
+use lib.ListN.{length, getD}
+use Rattle.limits.specs.Errors.{Check, _otherwise_, firstRefusal}
+use Rattle.limits.specs.Limits.{bufferPixels}
+use Rattle.limits.specs.declared.Outcome.{Outcome}
+use Rattle.limits.specs.declared.Outcome.the-variants as O
+use Rattle.limits.specs.declared.ErrorCode.{ErrorCode}
+use Rattle.limits.specs.declared.ErrorCode.the-variants.{NoFreeBuffers, NumbersUsedUp}
+use Rattle.covariance.specs.declared.Shape.{Shape}
+use Rattle.averaging.specs.Steps.{iterate}
+use Rattle.machine.specs.declared.Answer.{Answer}
+use Rattle.machine.specs.declared.Answer.the-variants.{Job, Idle, Refused}
+use Rattle.machine.specs.declared.Found.the-variants.{At, Nothing}
+use Rattle.machine.specs.Slots.{slotCount, emptySlot, slotAt, isEmpty, nextPlace, firstFrom, countOf}
+use Rattle.machine.specs.Store.{bufferCount, buffersPerSlot, storeLength, part, put, bufferAfter}
+use Rattle.machine.specs.Calls.{Call, submit, Result, callOf, lastNumber, freeBuffers, submittedChecks, submitChecks, emptyPlace, newSlot, submitAt, unlessRefused, submitOf}
+use Rattle.machine.specs.History.{Event, Place, next, eventOf, accepts, Submitted, jobOf, held, ticksOf, stepsLeft, numbers, howMany, jobCount, heldCount}
+use Rattle.machine.specs.Demand.{numberUnless, submitAnswer, answerAt, lentAfter, lentTo, countdown}
+use Rattle.machine.proofs.Search.{Hit, hit, distance, found, next-lt}
+use Rattle.machine.proofs.Parts.{length-put, part-own, part-other}
+use Rattle.machine.proofs.Words.{Untouched, same-held, started-held, started-job, started-ticks, many-same}
+use Rattle.machine.proofs.Checks.{AllHold, all-hold, count-le, some-empty, free-test}
+use Rattle.machine.proofs.Invariant.{Invariant, Taken, Sits, JobFine, slotOf, Change, changed, is-usable, block, within-block, from-block, fits-le}
+use Rattle.machine.proofs.Served.{Served, sets, refused-call}
+
+module _ (p : Place) (v : Invariant p) (shape : Shape) (k w h : ℕ) (pixels : List ℕ) where
+  held-le : heldCount (p .history) ≤ slotCount
+  held-le = let c = count-le (λ s. not (isEmpty s)) (p .service .slots) slotCount in omega (arith, v .counted)
+
+  -- the checks, with what the calls and answers say in the place of the record
+  abbrev tests : List Check
+  tests =
+      submittedChecks shape k w h pixels
+      ((ltb (heldCount (p .history)) slotCount otherwise NoFreeBuffers) ∷ (ltb (jobCount (p .history)) lastNumber otherwise NumbersUsedUp) ∷ [])
+
+  abbrev checks : Outcome
+  checks = firstRefusal tests
+
+  checks-are : submitChecks (p .service) (p .store) shape k w h pixels ≡ checks
+  unfolding submitChecks freeBuffers
+  checks-are = rw (is-usable p v, v .counted, free-test (heldCount (p .history)) held-le, v .last)
+
+  -- the empty slot that is found where fewer than eight jobs are held
+  place : ltb (heldCount (p .history)) slotCount ≡ true → Hit isEmpty (p .service .slots) slotCount (nextPlace slotCount (p .service .filled)) slotCount (slotCount - 1)
+  place e =
+      let l = ltb-true (heldCount (p .history)) slotCount e in
+      let s = some-empty (p .service .slots) slotCount (omega (arith, v .counted)) in
+      let start = next-lt slotCount (p .service .filled) (omega arith) in
+      let d = distance slotCount (nextPlace slotCount (p .service .filled)) (s .0) start (s .1) in
+      let g = hit isEmpty (p .service .slots) slotCount (s .0) (s .2) (s .1) slotCount (nextPlace slotCount (p .service .filled)) (d .0) start (d .1) (d .2) (omega arith) in
+      record { at = g .at; is = g .is; passes = g .passes; below = g .below; from = g .from; ahead = g .ahead; no-further = omega (arith, g .no-further, d .2) }
+
+  abbrev number : ℕ
+  number = p .service .last + 1
+
+  abbrev event : Event
+  event = record { call = submit shape k w h pixels; answer = Job number; lent = pixels }
+
+  is-new : (n : ℕ) → (n ≡ number → ⊥) → Untouched event n
+  is-new n ne = record { unstarted = ne-eqb number n (λ x. ne (sym x)); unserved = refl; unended = refl }
+
+  starts-it : eqb number number ≡ true
+  starts-it = eq-eqb number number refl
+
+  number-is : number ≡ suc (jobCount (p .history))
+  number-is = rw (v .last) (add-one (jobCount (p .history)))
+
+  given-now : numbers (event ∷ p .history) ≡ countdown (suc (jobCount (p .history)))
+  unfolding numbers
+  given-now = rw (number-is) (ap (λ ns. suc (jobCount (p .history)) ∷ ns) (v .given))
+
+  jobs-now : jobCount (event ∷ p .history) ≡ suc (jobCount (p .history))
+  unfolding numbers
+  jobs-now = refl
+
+  held-now : heldCount (event ∷ p .history) ≡ heldCount (p .history) + 1
+  unfolding numbers howMany
+  held-now =
+      rw (started-held event (p .history) number starts-it)
+      (ap (λ x. x + 1)
+      (rw (v .given)
+      (many-same (held (event ∷ p .history)) (held (p .history)) (jobCount (p .history))
+      (λ n g l. same-held event (p .history) n (is-new n (λ x. omega (arith, number-is)))))))
+
+  -- ---- accepted
+  module _ (fine : checks ≡ O.Accepted) where
+    all : AllHold tests
+    all = all-hold tests fine
+
+    full : length pixels ≡ w * h
+    full = eqb-true (length pixels) (w * h) (all .1 .1 .1 .1 .0)
+
+    small : w * h ≤ bufferPixels
+    small = fits-le w h (all .1 .1 .1 .1 .1 .0)
+
+    job-fine : JobFine (record { shape = shape; steps = k; width = w; height = h; picture = pixels })
+    job-fine =
+        record {
+          variances = all .0;
+          direction = all .1 .0;
+          steps = all .1 .1 .0;
+          sides = all .1 .1 .1 .0;
+          fits = all .1 .1 .1 .1 .1 .0;
+          kernel = all .1 .1 .1 .1 .1 .1 .0;
+          full = full;
+        }
+
+    spot : Hit isEmpty (p .service .slots) slotCount (nextPlace slotCount (p .service .filled)) slotCount (slotCount - 1)
+    spot = place (all .1 .1 .1 .1 .1 .1 .1 .0)
+
+    result : submitOf (p .service) (p .store) shape k w h pixels ≡ submitAt (p .service) (p .store) shape k w h pixels (At (spot .at))
+    unfolding submitOf
+    result = rw (checks-are, fine, spot .is)
+
+    was-empty : slotAt (p .service) (spot .at) .number ≡ 0
+    was-empty = eqb-true (slotAt (p .service) (spot .at) .number) 0 (spot .passes)
+
+    room : bufferAfter (spot .at) 0 + length pixels ≤ length (p .store)
+    room = omega (arith, full, small, spot .below, v .long)
+
+    sits : Sits (event ∷ p .history) (put (bufferAfter (spot .at) 0) pixels (p .store)) (spot .at) number (newSlot number shape k w h)
+    unfolding iterate
+    sits =
+        let j = started-job event (p .history) number starts-it in
+        let t = started-ticks event (p .history) number starts-it in
+        record {
+          positive = omega arith;
+          known = rw jobs-now (omega (arith, number-is));
+          is-held = started-held event (p .history) number starts-it;
+          is = rw (j, t, sub-zero k);
+          few = rw t (omega arith);
+          fine = rw j job-fine;
+          image = rw (j, t) (part-own (bufferAfter (spot .at) 0) (w * h) pixels (p .store) full (omega (arith, full, room)));
+        }
+
+    change : Change p (submit shape k w h pixels) (spot .at) number (newSlot number shape k w h)
+    change =
+        record {
+          at = spot .below;
+          slots = rw result;
+          before = inl was-empty;
+          only = λ j g ne e. ⊎-elim (λ z. let q = sym (ap (λ s. s .number) z) ∙ e in omega arith) (λ z. let q = sym (ap (λ s. s .number) (z .1 .is)) ∙ e in omega (arith, z .1 .known, number-is)) (v .taken j g);
+          others = λ n ne. rw result (is-new n ne);
+          long = rw result (length-put (bufferAfter (spot .at) 0) pixels (p .store) room ∙ v .long);
+          apart =
+              λ j a n ne x y. rw result
+              (part-other block j (spot .at) (bufferAfter (spot .at) 0) a n pixels (p .store) room ne (from-block (spot .at) 0)
+              (within-block (spot .at) 0 (length pixels) (omega (arith, full, small))) x y);
+          grows = rw (result, jobs-now) (omega arith);
+          new = rw result (inr sits);
+          filled = rw result (spot .below);
+          served = rw result (v .served);
+          last = rw (result, jobs-now) number-is;
+          given = rw (result, jobs-now) given-now;
+          counted = rw (result, held-now, was-empty, ne-eqb number 0 (λ x. omega arith)) (omega arith);
+        }
+
+    -- no job has this number yet
+    unheld : held (p .history) number ≡ false
+    unheld = go (held (p .history) number) refl
+      where
+        go : (t : Bool) → held (p .history) number ≡ t → held (p .history) number ≡ false
+        go true e =
+            let w = v .placed number e in
+            ⊎-elim (λ z. let q = sym (ap (λ s. s .number) z) ∙ w .2 in absurd (omega arith))
+            (λ z. let q = sym (ap (λ s. s .number) (z .1 .is)) ∙ w .2 in absurd (omega (arith, z .1 .known, number-is))) (v .taken (w .0) (w .1))
+        go false e = e
+
+    submit-accepted : Served p (submit shape k w h pixels) (Job (jobCount (p .history) + 1))
+    submit-accepted =
+        record {
+          answered = ap (λ (r : Result). r .answer) result ∙ ap Job (ap (λ n. n + 1) (v .last));
+          keeps = changed p v (submit shape k w h pixels) (spot .at) number (newSlot number shape k w h) change;
+          effect = sets (spot .at) number (newSlot number shape k w h) change (inl unheld);
+          turn = λ t. ap (λ (r : Result). r .service .served) result;
+          unchanged = λ e. absurd (true≢false (sym (ap (λ (r : Result). accepts (r .answer)) result) ∙ e));
+        }
+
+  refused : (code : ErrorCode) → checks ≡ O.Refused code
+      → submitOf (p .service) (p .store) shape k w h pixels ≡ record { answer = Refused code; service = p .service; store = p .store; lent = pixels }
+  unfolding submitOf
+  refused code e = rw (checks-are, e)
+
+  submits-when : (o : Outcome) → checks ≡ o → Served p (submit shape k w h pixels) (numberUnless o (jobCount (p .history) + 1))
+  submits-when O.Accepted e = submit-accepted e
+  submits-when (O.Refused code) e = refused-call p v (submit shape k w h pixels) code (refused code e)
+
+  pub submits : Served p (submit shape k w h pixels) (submitAnswer (p .history) shape k w h pixels)
+  submits = submits-when checks refl

@@ -1,0 +1,94 @@
+-- Demand 3, of every list of calls. Assumes nothing.
+use mathlib.Core.Path.{_≡_, refl, sym, _∙_, ap}
+use mathlib.Core.Bool.{Bool, true, false, not}
+use mathlib.Core.Logic.{_⊎_, inl, inr, ⊎-elim, _↔_}
+use mathlib.Core.List.{List}
+use Prim.Native.Nat.{ℕ, _+_, _-_, _*_, _≤_, _<_}
+use native.Mathlib.Omega.{arith}
+use lib.ListN.{length}
+use Rattle.kernel.proofs.Theorems.{sound}
+use Rattle.covariance.specs.Shapes.{covarianceXX, covarianceXY, covarianceYY}
+use Rattle.averaging.specs.Distances.{Entrywise, Distance}
+use Rattle.averaging.proofs.Distance.{distance}
+use Rattle.machine.specs.declared.Answer.the-variants.{Job, Idle}
+use Rattle.machine.specs.declared.FreeCount.the-variants.{Buffers}
+use Rattle.machine.specs.Slots.{slotCount, isEmpty, nextPlace}
+use Rattle.machine.specs.Store.{bufferCount, buffersPerSlot, storeLength}
+use Rattle.machine.specs.Calls.{Call, tick, collect, freeBuffers, freeCountOf}
+use Rattle.machine.specs.History.{Place, opened, after, since, kernelOfJob, aloneAfter, exactAfter, Submitted, jobOf, held, stepsLeft, heldCount, withdrawnIn, ticksIn}
+use Rattle.machine.specs.Demand.{answerAt, lentAfter, AtPlace, Demand3}
+use Rattle.machine.proofs.Search as S
+use Rattle.machine.proofs.Checks.{count-le}
+use Rattle.machine.proofs.Invariant.{Invariant, JobFine, in-order}
+use Rattle.machine.proofs.Submits.{submits}
+use Rattle.machine.proofs.Ticks.{Ticked, idled, served, ticked}
+use Rattle.machine.proofs.Ends.{Seated, seated, withdraws, collects, hands-over}
+use Rattle.machine.proofs.Lists.{answers, after-invariant, opened-invariant}
+use Rattle.machine.proofs.Lone.{lone-accepted, lone-answer, lone-picture}
+use Rattle.machine.proofs.Wait.{Waiting, waits}
+
+idle-no-job : (n : ℕ) → Job n ≡ Idle → ⊥
+idle-no-job n e = let z : _≡_ {A = ℕ} 0 1 = cc in omega arith
+
+-- the lone run lies within half a unit for each step of the exact one
+near-exact : (j : Submitted) → JobFine j → Entrywise (Distance (kernelOfJob j .sum) (j .steps)) (aloneAfter j (j .steps)) (exactAfter j (j .steps))
+near-exact j f =
+    distance (kernelOfJob j) (j .steps)
+    (sound (covarianceXX (j .shape)) (covarianceXY (j .shape)) (covarianceYY (j .shape)) (j .steps) (f .steps) (f .kernel))
+    (j .width) (j .height) (j .picture) (f .full) (j .steps)
+
+module _ (p : Place) (v : Invariant p) where
+  idle-exactly : (answerAt p tick ≡ Idle) ↔ ((n : ℕ) → held (p .history) n ≡ true → stepsLeft (p .history) n ≡ 0)
+  idle-exactly = (only (ticked p v), always (ticked p v))
+    where
+      only : Ticked p v → answerAt p tick ≡ Idle → (n : ℕ) → held (p .history) n ≡ true → stepsLeft (p .history) n ≡ 0
+      only (idled e s none) a = none
+      only (served i n e h s u l t d) a = absurd (idle-no-job n (sym (d .answered) ∙ a))
+
+      always : Ticked p v → ((n : ℕ) → held (p .history) n ≡ true → stepsLeft (p .history) n ≡ 0) → answerAt p tick ≡ Idle
+      always (idled e s none) f = s .answered
+      always (served i n e h s u l t d) f = absurd (let z = f n (s .is-held) in omega arith)
+
+  serves-one : Ticked p v → (answerAt p tick ≡ Idle) ⊎ ((n : ℕ) × (answerAt p tick ≡ Job n) × (held (p .history) n ≡ true) × (0 < stepsLeft (p .history) n))
+  serves-one (idled e s none) = inl (s .answered)
+  serves-one (served i n e h s u l t d) = inr (n, d .answered, s .is-held, l)
+
+  in-time : (n : ℕ) (calls : List Call) → held (p .history) n ≡ true → ticksIn calls ≡ slotCount * stepsLeft (p .history) n
+      → (stepsLeft (after p calls .history) n ≡ 0) ⊎ (withdrawnIn (since p calls) n ≡ true)
+  in-time n calls h t =
+      let s = seated p v n h in
+      let d = S.distance slotCount (nextPlace slotCount (p .service .served)) (s .at) (S.next-lt slotCount (p .service .served) (omega arith)) (s .below) in
+      waits calls p v n (s .at) (d .0)
+      (record { is-held = h; at = s .below; number = ap (λ x. x .number) (s .sits .is); ahead = d .1; below = d .2 }) (s .sits .known)
+      (omega (arith, d .2))
+
+  free-is : freeCountOf (p .service) ≡ Buffers (bufferCount - buffersPerSlot * heldCount (p .history))
+  unfolding freeCountOf freeBuffers
+  free-is = rw (in-order p v, v .counted)
+
+  pub at-place : AtPlace p
+  at-place =
+      record {
+        submit-answer = λ shape k w h pixels. submits p v shape k w h pixels .answered;
+        withdraw-answer = λ n. withdraws p v n .answered;
+        collect-answer = λ n lent. collects p v n lent .answered;
+        handed-over = λ n lent a. hands-over p v n lent a .0;
+        within-half = λ n lent a. (let w = hands-over p v n lent a in rw (w .0) (near-exact (jobOf (p .history) n) (w .1 .sits .fine)));
+        lone-service =
+            λ n lent a store mine long size. (let w = hands-over p v n lent a in let f = w .1 .sits .fine in (
+              lone-accepted (jobOf (p .history) n) f store long,
+              lone-answer (jobOf (p .history) n) f store long mine size,
+              lone-picture (jobOf (p .history) n) f store long mine size ∙ sym (w .0),
+            ));
+        tick-idle = idle-exactly;
+        tick-serves = serves-one (ticked p v);
+        wait = in-time;
+        free-buffers = free-is;
+        numbers-given = v .given;
+        at-most-eight = let c = count-le (λ s. not (isEmpty s)) (p .service .slots) slotCount in omega (arith, v .counted);
+        ticks-within = λ n h. seated p v n h .sits .few;
+        unchanged = λ c. answers p v c .1 .unchanged;
+      }
+
+pub demand-3 : Demand3
+demand-3 store long calls = at-place (after (opened store) calls) (after-invariant calls (opened store) (opened-invariant store long))

@@ -1,0 +1,234 @@
+-- The calls of the service: each as a function of the record, the store and what is lent to it, with its refusals in checking
+-- order. Definitions only; the contracts of the running calls are equations with these.
+use mathlib.Core.Bool.{Bool, true, false, not, cond, _&&_}
+use mathlib.Core.List.{List, [], _∷_}
+use Prim.Native.Nat.{ℕ, _+_, _-_, _*_, _^_}
+use lib.Dec.{leb, ltb, eqb}
+use lib.ListN.{length, set}
+use lib.IntN.{ℤ}
+use Rattle.limits.specs.Limits.{stepsInRange, sidesInRange, fillsPicture, fitsBuffer}
+use Rattle.limits.specs.Errors.{Check, _otherwise_, firstRefusal}
+use Rattle.limits.specs.declared.Outcome.{Outcome}
+use Rattle.limits.specs.declared.Outcome.the-variants.{Accepted, Refused}
+use Rattle.limits.specs.declared.ErrorCode.the-variants.{RecordOutOfOrder, VarianceOutOfRange, NotADirection, StepsOutOfRange, SideOutOfRange, NoSuchJob, StepsAreLeft, WrongLength, TooManyPixels, NoKernel, NoFreeBuffers, NumbersUsedUp}
+use Rattle.kernel.specs.declared.Kernel.{Kernel}
+use Rattle.kernel.specs.Molecule.{unitsOf, kernelOf}
+use Rattle.kernel.specs.Existence.{kernelExists}
+use Rattle.covariance.specs.declared.Shape.{Shape}
+use Rattle.covariance.specs.Shapes.{variancesFine, directionFine, covarianceXX, covarianceXY, covarianceYY}
+use Rattle.averaging.specs.Steps.{stepOf}
+use Rattle.machine.specs.declared.Slot.{Slot}
+use Rattle.machine.specs.declared.Service.{Service}
+use Rattle.machine.specs.declared.Answer as A
+use Rattle.machine.specs.declared.Answer.{Answer}
+use Rattle.machine.specs.declared.FreeCount as F
+use Rattle.machine.specs.declared.FreeCount.{FreeCount}
+use Rattle.machine.specs.declared.Found.{Found}
+use Rattle.machine.specs.declared.Found.the-variants.{At, Nothing}
+use Rattle.machine.specs.Slots.{slotCount, emptySlot, slotAt, isEmpty, hasStepsLeft, hasNumber, nextPlace, firstFrom, countOf}
+use Rattle.machine.specs.Store.{bufferCount, buffersPerSlot, part, put, bufferAfter, pixelCount, stepsDone, currentImage}
+use Rattle.machine.specs.Order.{inOrder, usable}
+
+-- what a call leaves behind: its answer, the record, the store, and the picture that was lent to it
+pub record Result : Type 0 where
+  pub answer : Answer
+  pub service : Service
+  pub store : List ℕ
+  pub lent : List ℕ
+
+-- the largest job number, 2^64 − 1
+abbrev pub lastNumber : ℕ
+lastNumber = 2 ^ 64 - 1
+
+-- "Free buffers are 16 less 2 for each filled seat"
+unfoldable pub freeBuffers : Service → ℕ
+freeBuffers r = bufferCount - buffersPerSlot * countOf (λ s. not (isEmpty s)) (r .slots) slotCount
+
+-- ---- submit
+-- the checks of a submit from refusal 5 to 11, for the covariance of its shape and the number of pixels lent
+abbrev pub jobChecks : ℤ → ℤ → ℤ → ℕ → ℕ → ℕ → ℕ → List Check → List Check
+jobChecks xx xy yy k w h pixels rest =
+    (stepsInRange k otherwise StepsOutOfRange)
+    ∷ (sidesInRange w h otherwise SideOutOfRange)
+    ∷ (fillsPicture pixels w h otherwise WrongLength)
+    ∷ (fitsBuffer w h otherwise TooManyPixels)
+    ∷ (kernelExists xx xy yy (unitsOf k) otherwise NoKernel)
+    ∷ rest
+
+-- its checks between refusals 2 and 12, in order: they look only at what the caller hands in
+abbrev pub submittedChecks : Shape → ℕ → ℕ → ℕ → List ℕ → List Check → List Check
+submittedChecks shape k w h pixels rest =
+    (variancesFine shape otherwise VarianceOutOfRange)
+    ∷ (directionFine shape otherwise NotADirection)
+    ∷ jobChecks (covarianceXX shape) (covarianceXY shape) (covarianceYY shape) k w h (length pixels) rest
+
+-- refusals 12 and 13
+abbrev pub roomChecks : Service → List Check
+roomChecks r =
+    (leb buffersPerSlot (freeBuffers r) otherwise NoFreeBuffers) ∷ (ltb (r .last) lastNumber otherwise NumbersUsedUp) ∷ []
+
+unfoldable pub submitChecks : Service → List ℕ → Shape → ℕ → ℕ → ℕ → List ℕ → Outcome
+submitChecks r store shape k w h pixels =
+    firstRefusal ((usable r store otherwise RecordOutOfOrder) ∷ submittedChecks shape k w h pixels (roomChecks r))
+
+-- "the first empty seat counted on cyclically from the one after the seat last filled"
+abbrev pub emptyPlace : Service → Found
+emptyPlace r = firstFrom isEmpty (r .slots) slotCount (nextPlace slotCount (r .filled)) slotCount
+
+abbrev pub newSlot : ℕ → Shape → ℕ → ℕ → ℕ → Slot
+newSlot number shape k w h =
+    record {
+      number = number;
+      xx = covarianceXX shape;
+      xy = covarianceXY shape;
+      yy = covarianceYY shape;
+      steps = k;
+      left = k;
+      width = w;
+      height = h;
+    }
+
+-- "Submit fills [that seat], copies the picture to the start of buffer 2i, and gives the next number"
+abbrev pub submitAt : Service → List ℕ → Shape → ℕ → ℕ → ℕ → List ℕ → Found → Result
+submitAt r store shape k w h pixels (At i) =
+    record {
+      answer = A.Answer.Job (r .last + 1);
+      service =
+          record {
+            slots = set (r .slots) i (newSlot (r .last + 1) shape k w h);
+            last = r .last + 1;
+            filled = i;
+            served = r .served;
+          };
+      store = put (bufferAfter i 0) pixels store;
+      lent = pixels;
+    }
+submitAt r store shape k w h pixels Nothing =
+    record { answer = A.Answer.Refused NoFreeBuffers; service = r; store = store; lent = pixels }
+
+-- a refused call: "a refusal answers its number alone; record, store and every lent buffer keep their contents"
+abbrev pub unlessRefused : Outcome → Service → List ℕ → List ℕ → Result → Result
+unlessRefused Accepted r store lent result = result
+unlessRefused (Refused code) r store lent result =
+    record { answer = A.Answer.Refused code; service = r; store = store; lent = lent }
+
+unfoldable pub submitOf : Service → List ℕ → Shape → ℕ → ℕ → ℕ → List ℕ → Result
+submitOf r store shape k w h pixels =
+    unlessRefused (submitChecks r store shape k w h pixels) r store pixels
+    (submitAt r store shape k w h pixels (emptyPlace r))
+
+-- ---- tick
+abbrev pub kernelOfSlot : Slot → Kernel
+kernelOfSlot s = kernelOf (s .xx) (s .xy) (s .yy) (s .steps)
+
+-- a slot with one step less left
+abbrev pub steppedSlot : Slot → Slot
+steppedSlot s =
+    record {
+      number = s .number;
+      xx = s .xx;
+      xy = s .xy;
+      yy = s .yy;
+      steps = s .steps;
+      left = s .left - 1;
+      width = s .width;
+      height = s .height;
+    }
+
+-- "one step, from the buffer of the current picture to the seat's other one, w × h pixels only"
+abbrev pub nextImage : List ℕ → ℕ → Slot → List ℕ
+nextImage store i s = stepOf (kernelOfSlot s) (s .width) (s .height) (currentImage store i s)
+
+-- "counted cyclically from the one after the seat last served, the first seat with steps left"
+abbrev pub servedPlace : Service → Found
+servedPlace r = firstFrom hasStepsLeft (r .slots) slotCount (nextPlace slotCount (r .served)) slotCount
+
+-- "it answers the job number. It answers idle where no seat has steps left, and only there, and then changes nothing"
+abbrev pub tickAt : Service → List ℕ → Found → Result
+tickAt r store (At i) =
+    record {
+      answer = A.Answer.Job (slotAt r i .number);
+      service =
+          record { slots = set (r .slots) i (steppedSlot (slotAt r i)); last = r .last; filled = r .filled; served = i };
+      store = put (bufferAfter i (stepsDone (slotAt r i) + 1)) (nextImage store i (slotAt r i)) store;
+      lent = [];
+    }
+tickAt r store Nothing = record { answer = A.Answer.Idle; service = r; store = store; lent = [] }
+
+unfoldable pub tickOf : Service → List ℕ → Result
+tickOf r store =
+    unlessRefused (firstRefusal ((usable r store otherwise RecordOutOfOrder) ∷ [])) r store [] (tickAt r store (servedPlace r))
+
+-- ---- collect and withdraw
+-- "No seat has this job number (0 included)" is refusal 7
+abbrev pub placeOf : Service → ℕ → Found
+placeOf r number = cond (eqb number 0) Nothing (firstFrom (hasNumber number) (r .slots) slotCount 0 slotCount)
+
+abbrev pub isFound : Found → Bool
+isFound (At i) = true
+isFound Nothing = false
+
+-- the slot that was found
+abbrev pub slotFound : Service → Found → Slot
+slotFound r (At i) = slotAt r i
+slotFound r Nothing = emptySlot
+
+abbrev pub emptied : Service → ℕ → Service
+emptied r i = record { slots = set (r .slots) i emptySlot; last = r .last; filled = r .filled; served = r .served }
+
+-- the checks of a collect after refusal 7, for the slot that was found
+abbrev pub handOverChecks : Slot → ℕ → List Check
+handOverChecks s pixels =
+    (not (hasStepsLeft s) otherwise StepsAreLeft) ∷ (fillsPicture pixels (s .width) (s .height) otherwise WrongLength) ∷ []
+
+unfoldable pub collectChecks : Service → List ℕ → ℕ → List ℕ → Outcome
+collectChecks r store number lent =
+    firstRefusal
+    ((usable r store otherwise RecordOutOfOrder)
+    ∷ (isFound (placeOf r number) otherwise NoSuchJob)
+    ∷ handOverChecks (slotFound r (placeOf r number)) (length lent))
+
+-- "Collect writes it out and empties the seat .. neither changes the store"
+abbrev pub collectAt : Service → List ℕ → ℕ → List ℕ → Found → Result
+collectAt r store number lent (At i) =
+    record { answer = A.Answer.Job number; service = emptied r i; store = store; lent = currentImage store i (slotAt r i) }
+collectAt r store number lent Nothing =
+    record { answer = A.Answer.Refused NoSuchJob; service = r; store = store; lent = lent }
+
+unfoldable pub collectOf : Service → List ℕ → ℕ → List ℕ → Result
+collectOf r store number lent =
+    unlessRefused (collectChecks r store number lent) r store lent (collectAt r store number lent (placeOf r number))
+
+-- "withdraw empties the seat, finished or not". It is lent no store, so refusal 2 is the record's half alone.
+abbrev pub withdrawAt : Service → List ℕ → ℕ → Found → Result
+withdrawAt r store number (At i) =
+    record { answer = A.Answer.Job number; service = emptied r i; store = store; lent = [] }
+withdrawAt r store number Nothing =
+    record { answer = A.Answer.Refused NoSuchJob; service = r; store = store; lent = [] }
+
+unfoldable pub withdrawOf : Service → List ℕ → ℕ → Result
+withdrawOf r store number =
+    unlessRefused
+    (firstRefusal ((inOrder r otherwise RecordOutOfOrder) ∷ (isFound (placeOf r number) otherwise NoSuchJob) ∷ []))
+    r store [] (withdrawAt r store number (placeOf r number))
+
+-- ---- the free count
+abbrev pub freeCountWith : Outcome → ℕ → FreeCount
+freeCountWith Accepted n = F.FreeCount.Buffers n
+freeCountWith (Refused code) n = F.FreeCount.Refused code
+
+unfoldable pub freeCountOf : Service → FreeCount
+freeCountOf r = freeCountWith (firstRefusal ((inOrder r otherwise RecordOutOfOrder) ∷ [])) (freeBuffers r)
+
+-- ---- all of them as one function
+pub data Call : Type 0 where
+  submit : Shape → ℕ → ℕ → ℕ → List ℕ → Call
+  tick : Call
+  collect : ℕ → List ℕ → Call
+  withdraw : ℕ → Call
+
+abbrev pub callOf : Service → List ℕ → Call → Result
+callOf r store (submit shape k w h pixels) = submitOf r store shape k w h pixels
+callOf r store tick = tickOf r store
+callOf r store (collect number lent) = collectOf r store number lent
+callOf r store (withdraw number) = withdrawOf r store number

@@ -1,0 +1,125 @@
+-- Demand 3: one claim about a whole list of calls, with a field for each sentence of document 01 under "Demand 3 is one
+-- claim". Definitions only; `proofs/Theorem` shows it of every list.
+use mathlib.Core.Path.{_≡_}
+use mathlib.Core.Bool.{Bool, true, false, _&&_}
+use mathlib.Core.Logic.{_⊎_, _↔_}
+use mathlib.Core.List.{List, [], _∷_, _++_}
+use Prim.Native.Nat.{ℕ, zero, suc, _+_, _-_, _*_, _≤_, _<_}
+use lib.Dec.{ltb, eqb}
+use lib.ListN.{length, replicate}
+use Rattle.limits.specs.Limits.{fillsPicture}
+use Rattle.limits.specs.Errors.{_otherwise_, firstRefusal}
+use Rattle.limits.specs.declared.Outcome as O
+use Rattle.limits.specs.declared.Outcome.{Outcome}
+use Rattle.limits.specs.declared.ErrorCode.the-variants.{NoSuchJob, StepsAreLeft, WrongLength, NoFreeBuffers, NumbersUsedUp}
+use Rattle.covariance.specs.declared.Shape.{Shape}
+use Rattle.averaging.specs.Distances.{Entrywise, Distance}
+use Rattle.machine.specs.declared.Answer.{Answer}
+use Rattle.machine.specs.declared.Answer.the-variants.{Job, Idle, Refused}
+use Rattle.machine.specs.declared.FreeCount.the-variants.{Buffers}
+use Rattle.machine.specs.Slots.{slotCount}
+use Rattle.machine.specs.Store.{bufferCount, buffersPerSlot, storeLength}
+use Rattle.machine.specs.Calls.{Call, submit, tick, collect, withdraw, callOf, submittedChecks, lastNumber, freeCountOf}
+use Rattle.machine.specs.History.{Event, Place, opened, next, eventOf, after, since, accepts, Submitted, kernelOfJob, aloneAfter, exactAfter, jobOf, held, ticksOf, stepsLeft, numbers, jobCount, heldCount, withdrawnIn, ticksIn}
+
+-- the answer of a call that gives this number where it is not refused
+abbrev pub numberUnless : Outcome → ℕ → Answer
+numberUnless O.Outcome.Accepted n = Job n
+numberUnless (O.Outcome.Refused code) n = Refused code
+
+-- "A submit is accepted where no refusal from 3 to 11 in checking order applies to it, fewer jobs are held than there are
+-- seats, and fewer than 2^64 − 1 jobs came before it"
+abbrev pub submitOutcome : List Event → Shape → ℕ → ℕ → ℕ → List ℕ → Outcome
+submitOutcome es shape k w h pixels =
+    firstRefusal
+    (submittedChecks shape k w h pixels
+    ((ltb (heldCount es) slotCount otherwise NoFreeBuffers) ∷ (ltb (jobCount es) lastNumber otherwise NumbersUsedUp) ∷ []))
+
+-- it answers the next number
+abbrev pub submitAnswer : List Event → Shape → ℕ → ℕ → ℕ → List ℕ → Answer
+submitAnswer es shape k w h pixels = numberUnless (submitOutcome es shape k w h pixels) (jobCount es + 1)
+
+-- "While it is held, a withdraw of it is accepted"
+abbrev pub withdrawAnswer : List Event → ℕ → Answer
+withdrawAnswer es n = numberUnless (firstRefusal ((held es n otherwise NoSuchJob) ∷ [])) n
+
+-- "While it is held and finished, a collect of it with a lent picture of w × h pixels is accepted; before it is finished none
+-- is"
+abbrev pub collectAnswer : List Event → ℕ → List ℕ → Answer
+collectAnswer es n lent =
+    numberUnless
+    (firstRefusal
+    ((held es n otherwise NoSuchJob)
+    ∷ (eqb (stepsLeft es n) 0 otherwise StepsAreLeft)
+    ∷ (fillsPicture (length lent) (jobOf es n .width) (jobOf es n .height) otherwise WrongLength)
+    ∷ []))
+    n
+
+-- what a call answers at a place, and the picture lent to it as the call leaves it
+abbrev pub answerAt : Place → Call → Answer
+answerAt p c = eventOf p c .answer
+
+abbrev pub lentAfter : Place → Call → List ℕ
+lentAfter p c = eventOf p c .lent
+
+abbrev pub lentTo : Call → List ℕ
+lentTo (submit shape k w h pixels) = pixels
+lentTo tick = []
+lentTo (collect n lent) = lent
+lentTo (withdraw n) = []
+
+-- n, .. 2, 1
+abbrev pub countdown : ℕ → List ℕ
+countdown zero = []
+countdown (suc n) = suc n ∷ countdown n
+
+-- "A service opened for it only, with its submit, k ticks and a collect"
+abbrev pub loneCalls : Submitted → List Call
+loneCalls j = submit (j .shape) (j .steps) (j .width) (j .height) (j .picture) ∷ replicate (j .steps) tick
+
+unfoldable pub allAccepted : List Event → Bool
+allAccepted [] = true
+allAccepted (e ∷ es) = accepts (e .answer) && allAccepted es
+
+-- what is claimed at a place of the list, of whatever is called there
+pub record AtPlace (p : Place) : Type 0 where
+  pub submit-answer : (shape : Shape) (k w h : ℕ) (pixels : List ℕ)
+      → answerAt p (submit shape k w h pixels) ≡ submitAnswer (p .history) shape k w h pixels
+  pub withdraw-answer : (n : ℕ) → answerAt p (withdraw n) ≡ withdrawAnswer (p .history) n
+  pub collect-answer : (n : ℕ) (lent : List ℕ) → answerAt p (collect n lent) ≡ collectAnswer (p .history) n lent
+  -- "Handed over is the whole lent picture as an accepted collect leaves it": the lone run
+  pub handed-over : (n : ℕ) (lent : List ℕ) → answerAt p (collect n lent) ≡ Job n
+      → lentAfter p (collect n lent) ≡ aloneAfter (jobOf (p .history) n) (jobOf (p .history) n .steps)
+  -- "each pixel that a collect hands over for a job of k steps lies within k/2 units of an exact run"
+  pub within-half : (n : ℕ) (lent : List ℕ) → answerAt p (collect n lent) ≡ Job n
+      → Entrywise (Distance (kernelOfJob (jobOf (p .history) n) .sum) (jobOf (p .history) n .steps))
+      (lentAfter p (collect n lent)) (exactAfter (jobOf (p .history) n) (jobOf (p .history) n .steps))
+  -- "A service opened for it only .. hands over the same", whatever its store and the picture lent to its collect held
+  pub lone-service : (n : ℕ) (lent : List ℕ) → answerAt p (collect n lent) ≡ Job n → (store mine : List ℕ)
+      → length store ≡ storeLength → length mine ≡ jobOf (p .history) n .width * jobOf (p .history) n .height
+      → (allAccepted (after (opened store) (loneCalls (jobOf (p .history) n)) .history) ≡ true)
+      × (answerAt (after (opened store) (loneCalls (jobOf (p .history) n))) (collect 1 mine) ≡ Job 1)
+      × (lentAfter (after (opened store) (loneCalls (jobOf (p .history) n))) (collect 1 mine) ≡ lentAfter p (collect n lent))
+  -- a tick answers idle exactly where no held job has steps left; any other tick answers a held job that has some
+  pub tick-idle : (answerAt p tick ≡ Idle) ↔ ((n : ℕ) → held (p .history) n ≡ true → stepsLeft (p .history) n ≡ 0)
+  pub tick-serves : (answerAt p tick ≡ Idle)
+      ⊎ ((n : ℕ) × (answerAt p tick ≡ Job n) × (held (p .history) n ≡ true) × (0 < stepsLeft (p .history) n))
+  -- "where a held job has r steps left and 8 × r more ticks follow in the list, it is finished or was withdrawn by the last
+  -- of them, whatever calls stand between"
+  pub wait : (n : ℕ) (calls : List Call) → held (p .history) n ≡ true
+      → ticksIn calls ≡ slotCount * stepsLeft (p .history) n
+      → (stepsLeft (after p calls .history) n ≡ 0) ⊎ (withdrawnIn (since p calls) n ≡ true)
+  -- "Free buffers at a place are what the free count, called there as well, answers": 16 less 2 for each job held
+  pub free-buffers : freeCountOf (p .service) ≡ Buffers (bufferCount - buffersPerSlot * heldCount (p .history))
+  -- "Numbers are not given twice": those given so far are 1, 2, 3 and so on
+  pub numbers-given : numbers (p .history) ≡ countdown (jobCount (p .history))
+  pub at-most-eight : heldCount (p .history) ≤ slotCount
+  -- the steps left are never fewer than none
+  pub ticks-within : (n : ℕ) → held (p .history) n ≡ true → ticksOf (p .history) n ≤ jobOf (p .history) n .steps
+  -- "record, store and every lent buffer keep their contents", of a refused call and of an idle tick
+  pub unchanged : (c : Call) → accepts (answerAt p c) ≡ false
+      → (next p c .service ≡ p .service) × (next p c .store ≡ p .store) × (lentAfter p c ≡ lentTo c)
+
+-- "The list starts with the opening's record and a store of 16,384 pixels of any value": at the place after any list of calls
+abbrev pub Demand3 : Type 0
+Demand3 = (store : List ℕ) → length store ≡ storeLength → (calls : List Call) → AtPlace (after (opened store) calls)

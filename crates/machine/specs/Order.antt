@@ -1,0 +1,55 @@
+-- When a service record is in order: refusal 2 is its failure. Definitions only.
+use mathlib.Core.Path.{_≡_}
+use mathlib.Core.Bool.{Bool, true, false, cond, _&&_}
+use mathlib.Core.List.{List}
+use Prim.Native.Nat.{ℕ, _≤_}
+use lib.Dec.{leb, ltb, eqb}
+use lib.ListN.{length}
+use lib.IntN.{ℤ, natAbs}
+use Rattle.limits.specs.Limits.{stepsInRange, sidesInRange, fitsBuffer}
+use Rattle.kernel.specs.Molecule.{unitsOf}
+use Rattle.kernel.specs.Existence.{kernelExists}
+use Rattle.machine.specs.declared.Slot.{Slot}
+use Rattle.machine.specs.declared.Service.{Service}
+use Rattle.machine.specs.Slots.{slotCount, isEmpty, hasNumber, countOf, everySlot}
+use Rattle.machine.specs.Store.{storeLength}
+
+abbrev pub isZero : ℤ → Bool
+isZero z = eqb (natAbs z) 0
+
+-- "each empty seat is all zero"
+unfoldable pub allZero : Slot → Bool
+allZero s =
+    isZero (s .xx) && (isZero (s .xy) && (isZero (s .yy)
+    && (eqb (s .steps) 0 && (eqb (s .left) 0 && (eqb (s .width) 0 && eqb (s .height) 0)))))
+
+-- "each filled one meets refusals 5, 6 and 10's limits, has a kernel, a number from 1 to the last given .., steps left at
+-- most its steps"
+unfoldable pub filledFine : ℕ → Slot → Bool
+filledFine last s =
+    (stepsInRange (s .steps) && kernelExists (s .xx) (s .xy) (s .yy) (unitsOf (s .steps)))
+    && (sidesInRange (s .width) (s .height) && (fitsBuffer (s .width) (s .height) && (leb (s .number) last && leb (s .left) (s .steps))))
+
+-- the same facts of a filled slot one by one, for contracts that ask for them
+pub record Filled (last : ℕ) (s : Slot) : Type 0 where
+  pub steps : stepsInRange (s .steps) ≡ true
+  pub kernel : kernelExists (s .xx) (s .xy) (s .yy) (unitsOf (s .steps)) ≡ true
+  pub sides : sidesInRange (s .width) (s .height) ≡ true
+  pub fits : fitsBuffer (s .width) (s .height) ≡ true
+  pub number : s .number ≤ last
+  pub left : s .left ≤ s .steps
+
+-- ".. shared with no other seat"
+abbrev pub unshared : List Slot → Slot → Bool
+unshared slots s = eqb (countOf (hasNumber (s .number)) slots slotCount) 1
+
+unfoldable pub slotFine : Service → Slot → Bool
+slotFine r s = cond (isEmpty s) (allZero s) (filledFine (r .last) s && unshared (r .slots) s)
+
+-- "and both named seats are 0 to 7"
+unfoldable pub inOrder : Service → Bool
+inOrder r = everySlot (slotFine r) (r .slots) slotCount && (ltb (r .filled) slotCount && ltb (r .served) slotCount)
+
+-- "The service record is not in order, or the store's length is not 16,384": refusal 2 of a call that is lent the store
+unfoldable pub usable : Service → List ℕ → Bool
+usable r store = inOrder r && eqb (length store) storeLength

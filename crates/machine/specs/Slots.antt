@@ -1,0 +1,56 @@
+-- The slots (document 01: seats) of the service record, and searches over them. Definitions only.
+use mathlib.Core.Bool.{Bool, true, false, cond, _&&_}
+use mathlib.Core.List.{List}
+use Prim.Native.Nat.{ℕ, zero, suc, _+_}
+use lib.Dec.{ltb, eqb}
+use lib.ListN.{getD, set, replicate}
+use lib.IntN.{pos}
+use Rattle.machine.specs.declared.Slot.{Slot}
+use Rattle.machine.specs.declared.Service.{Service}
+use Rattle.machine.specs.declared.Found.{Found}
+use Rattle.machine.specs.declared.Found.the-variants.{At, Nothing}
+
+-- "Eight seats, 0 to 7"
+abbrev pub slotCount : ℕ
+slotCount = 8
+
+-- "each empty seat is all zero"
+abbrev pub emptySlot : Slot
+emptySlot = record { number = 0; xx = pos 0; xy = pos 0; yy = pos 0; steps = 0; left = 0; width = 0; height = 0 }
+
+abbrev pub slotAt : Service → ℕ → Slot
+slotAt s i = getD (s .slots) i emptySlot
+
+-- "Opening: all empty, last number 0, both named seats 7"
+abbrev pub opening : Service
+opening = record { slots = replicate slotCount emptySlot; last = 0; filled = 7; served = 7 }
+
+-- what the searches look for: an empty slot, one with steps left, one with a number
+abbrev pub isEmpty : Slot → Bool
+isEmpty s = eqb (s .number) 0
+
+abbrev pub hasStepsLeft : Slot → Bool
+hasStepsLeft s = ltb 0 (s .left)
+
+abbrev pub hasNumber : ℕ → Slot → Bool
+hasNumber n s = eqb (s .number) n
+
+-- the place after i of so many, counted cyclically
+abbrev pub nextPlace : ℕ → ℕ → ℕ
+nextPlace size i = cond (ltb (i + 1) size) (i + 1) 0
+
+-- the first slot that passes the test, counted on cyclically from a place, looking at n of them
+unfoldable pub firstFrom : (Slot → Bool) → List Slot → ℕ → ℕ → ℕ → Found
+firstFrom test slots size place zero = Nothing
+firstFrom test slots size place (suc n) =
+    cond (test (getD slots place emptySlot)) (At place) (firstFrom test slots size (nextPlace size place) n)
+
+-- how many of the first n slots pass the test
+unfoldable pub countOf : (Slot → Bool) → List Slot → ℕ → ℕ
+countOf test slots zero = 0
+countOf test slots (suc n) = cond (test (getD slots n emptySlot)) (countOf test slots n + 1) (countOf test slots n)
+
+-- whether each of the first n slots passes it
+unfoldable pub everySlot : (Slot → Bool) → List Slot → ℕ → Bool
+everySlot test slots zero = true
+everySlot test slots (suc n) = everySlot test slots n && test (getD slots n emptySlot)

@@ -1,0 +1,42 @@
+// The service's record and answers, by value. The six calls as one state machine are definitions of specs/, and that every
+// list of calls keeps demand 3 is a theorem of proofs/; the running calls stand in the crate above.
+use limits::ErrorCode;
+
+// One of eight slots (document 01: a seat). Its number is 0 where it is empty, and then all of it is 0.
+pub struct Slot {
+    pub number: u64,
+    pub xx: i32,
+    pub xy: i32,
+    pub yy: i32,
+    pub steps: u32,
+    pub left: u32,
+    pub width: u32,
+    pub height: u32,
+}
+
+// The service record: the slots, the last number given, the slot last filled and the slot last served.
+pub struct Service {
+    pub slots: [Slot; 8],
+    pub last: u64,
+    pub filled: u32,
+    pub served: u32,
+}
+
+// What a submit, a tick, a collect or a withdraw answers.
+pub enum Answer {
+    Job(u64),
+    Idle,
+    Refused(ErrorCode),
+}
+
+// What the free count answers.
+pub enum FreeCount {
+    Buffers(u32),
+    Refused(ErrorCode),
+}
+
+// Where a search over the slots ended.
+pub enum Found {
+    At(usize),
+    Nothing,
+}

@@ -1,0 +1,46 @@
+-- What the running calls and their parts hand back, in terms of the state machine. Definitions only.
+use mathlib.Core.Path.{_≡_}
+use mathlib.Core.Bool.{true}
+use mathlib.Core.List.{List}
+use Prim.Native.Nat.{ℕ, _≤_, _<_}
+use lib.ListN.{length, set}
+use Rattle.limits.specs.Errors.{firstRefusal}
+use Rattle.limits.specs.declared.ErrorCode.the-variants.{NoFreeBuffers}
+use Rattle.machine.specs.declared.Slot.{Slot}
+use Rattle.machine.specs.declared.Service.{Service}
+use Rattle.machine.specs.declared.Answer.the-variants.{Job, Refused}
+use Rattle.machine.specs.declared.Found.{Found}
+use Rattle.machine.specs.declared.Found.the-variants.{At, Nothing}
+use Rattle.machine.specs.Slots.{slotCount, slotAt}
+use Rattle.machine.specs.Store.{storeLength, put, bufferAfter}
+use Rattle.machine.specs.Calls.{Result, handOverChecks, unlessRefused, collectAt}
+use Rattle.machine.specs.Order.{Filled}
+use Rattle.service.specs.declared.Called as C
+
+-- the answer and the record of a call
+abbrev pub calledOf : Result → C.Called
+calledOf r = record { answer = r .answer; service = r .service }
+
+-- a submit that passed its checks, with its slot at hand
+abbrev pub fillAt : Service → List ℕ → Slot → List ℕ → Found → Result
+fillAt r store slot pixels (At i) =
+    record {
+      answer = Job (slot .number);
+      service = record { slots = set (r .slots) i slot; last = slot .number; filled = i; served = r .served };
+      store = put (bufferAfter i 0) pixels store;
+      lent = pixels;
+    }
+fillAt r store slot pixels Nothing = record { answer = Refused NoFreeBuffers; service = r; store = store; lent = pixels }
+
+-- a collect that found its slot
+abbrev pub handOver : Service → List ℕ → ℕ → List ℕ → ℕ → Result
+handOver r store number lent i =
+    unlessRefused (firstRefusal (handOverChecks (slotAt r i) (length lent))) r store lent (collectAt r store number lent (At i))
+
+-- a slot whose picture can be taken one step on
+pub record Ready (n : ℕ) (s : Slot) (i : ℕ) : Type 0 where
+  pub long : n ≡ storeLength
+  pub at : i < slotCount
+  pub left : 0 < s .left
+  pub last : ℕ
+  pub filled : Filled last s

@@ -1,0 +1,2 @@
+-- What the running calls hand back.
+pub mod Called

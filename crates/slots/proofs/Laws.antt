@@ -1,0 +1,93 @@
+-- The searches and counts one turn of a loop at a time, and signed fields that pass through a call. Assumes nothing.
+use mathlib.Core.Path.{_≡_, refl, sym, _∙_}
+use mathlib.Core.Bool.{Bool, true, false, _&&_}
+use mathlib.Core.List.{List}
+use Prim.Native.Nat.{ℕ, zero, suc, _+_, _-_, _^_, _<_, _≤_}
+use native.Mathlib.Numerals.{add-one, sub-one}
+use native.Mathlib.Omega.{arith}
+use borrow.Author.Tests.{ne-eqb}
+use lib.Dec.{eqb}
+use lib.ListN.{getD}
+use lib.IntN.{ℤ, pos, negsuc}
+use lib.Signed.{mag}
+use mir.Syntax.{w32}
+use mir.Val.{SFits, toZ, ofZ}
+use mir.ValLaws.{toZ-ofZ}
+use Rattle.limits.specs.Limits.{stepsInRange}
+use Rattle.limits.specs.Errors.{unless}
+use Rattle.limits.specs.declared.ErrorCode.{ErrorCode}
+use Rattle.limits.specs.declared.ErrorCode.the-variants.{StepsOutOfRange, NoKernel}
+use Rattle.limits.specs.declared.Outcome.the-variants.{Accepted, Refused}
+use Rattle.kernel.specs.Molecule.{unitsOf, kernelOf}
+use Rattle.kernel.specs.Existence.{kernelExists}
+use Rattle.kernel.specs.Answer.{answerWith, kernelAnswer}
+use Rattle.machine.proofs.Checks.{refused-not-accepted}
+use Rattle.machine.specs.declared.Slot.{Slot}
+use Rattle.machine.specs.declared.Found.the-variants.{At, Nothing}
+use Rattle.machine.specs.Slots.{emptySlot, nextPlace, firstFrom, countOf, everySlot}
+use Rattle.machine.specs.Order.{isZero}
+
+module _ (test : Slot → Bool) (slots : List Slot) where
+  pub first-hit : (size place n : ℕ) → 0 < n → test (getD slots place emptySlot) ≡ true → firstFrom test slots size place n ≡ At place
+  unfolding firstFrom
+  first-hit size place zero h e = absurd (omega arith)
+  first-hit size place (suc n) h e = rw e
+
+  pub first-miss : (size place n : ℕ) → 0 < n → test (getD slots place emptySlot) ≡ false
+      → firstFrom test slots size place n ≡ firstFrom test slots size (nextPlace size place) (n - 1)
+  unfolding firstFrom
+  first-miss size place zero h e = absurd (omega arith)
+  first-miss size place (suc n) h e = rw (e, sub-one)
+
+  pub first-none : (size place n : ℕ) → n ≤ 0 → firstFrom test slots size place n ≡ Nothing
+  unfolding firstFrom
+  first-none size place zero h = refl
+  first-none size place (suc n) h = absurd (omega arith)
+
+  pub count-none : countOf test slots 0 ≡ 0
+  unfolding countOf
+  count-none = refl
+
+  pub count-hit : (n : ℕ) → test (getD slots n emptySlot) ≡ true → countOf test slots (n + 1) ≡ countOf test slots n + 1
+  unfolding countOf
+  count-hit n e = rw (add-one n, e)
+
+  pub count-miss : (n : ℕ) → test (getD slots n emptySlot) ≡ false → countOf test slots (n + 1) ≡ countOf test slots n
+  unfolding countOf
+  count-miss n e = rw (add-one n, e)
+
+  pub every-none : everySlot test slots 0 ≡ true
+  unfolding everySlot
+  every-none = refl
+
+  pub every-more : (n : ℕ) → everySlot test slots (n + 1) ≡ (everySlot test slots n && test (getD slots n emptySlot))
+  unfolding everySlot
+  every-more n = rw (add-one n)
+
+-- a signed field, as a call is handed it
+pub passed-on : (z : ℤ) → mag z < 2 ^ 31 → toZ w32 (ofZ w32 z) ≡ z
+passed-on z h = toZ-ofZ w32 z (record { sfits = h })
+
+pub zero-bits : (z : ℤ) → SFits w32 z → eqb (ofZ w32 z) 0 ≡ isZero z
+zero-bits (pos n) h = refl
+zero-bits (negsuc n) h =
+    ne-eqb (2 ^ 32 - suc n) 0 (λ e. let g : n < 2 ^ 31 = h .sfits in omega arith)
+    ∙ (let z : isZero (negsuc n) ≡ false = ne-eqb (suc n) 0 (λ e. omega arith) in sym z)
+
+-- what the outcome of the kernel call says
+pub with-kernel : (x z y : ℤ) (k : ℕ) → kernelAnswer x z y k .outcome ≡ Accepted → (stepsInRange k && kernelExists x z y (unitsOf k)) ≡ true
+with-kernel x z y k = go (stepsInRange k) (kernelExists x z y (unitsOf k))
+  where
+    go : (a b : Bool) → answerWith (unless a (Refused StepsOutOfRange) (unless b (Refused NoKernel) Accepted)) (kernelOf x z y k) .outcome ≡ Accepted → a && b ≡ true
+    go true true e = refl
+    go true false e = absurd (refused-not-accepted e)
+    go false b e = absurd (refused-not-accepted e)
+
+pub without-kernel : (x z y : ℤ) (k : ℕ) (code : ErrorCode) → kernelAnswer x z y k .outcome ≡ Refused code
+    → (stepsInRange k && kernelExists x z y (unitsOf k)) ≡ false
+without-kernel x z y k code = go (stepsInRange k) (kernelExists x z y (unitsOf k))
+  where
+    go : (a b : Bool) → answerWith (unless a (Refused StepsOutOfRange) (unless b (Refused NoKernel) Accepted)) (kernelOf x z y k) .outcome ≡ Refused code → a && b ≡ false
+    go true true e = absurd (refused-not-accepted (sym e))
+    go true false e = refl
+    go false b e = refl

@@ -1,0 +1,74 @@
+-- `slots::in_order` meets its contract. The invariant: every slot passed is fine. The measure is what is left of the eight.
+-- Assumes nothing.
+use borrow.Author.Needs.{needs}
+use native.Mathlib.Omega.{arith}
+use mathlib.Core.Path.{_≡_, sym, _∙_, ap}
+use Prim.Native.Nat.{_≤_, _-_}
+use Rattle.machine.specs.Slots.{slotCount, everySlot}
+use Rattle.machine.specs.Order.{slotFine, inOrder}
+use Rattle.slots.proofs.Laws.{every-none, every-more}
+use Rattle.slots.proofs.in_order.Statement.{statement}
+use Rattle.slots.proofs.in_order.Tie as tie
+
+abbrev Inv-loop : tie.InvT-loop
+Inv-loop service fine₀ i₀ fine i = (i ≤ slotCount) × (fine ≡ everySlot (slotFine service) (service .slots) i)
+
+abbrev μ-loop : tie.MeasureT-loop
+μ-loop service fine₀ i₀ fine i = slotCount - i
+
+loop-holds : tie.Need-loop-holds Inv-loop μ-loop
+loop-holds c = (omega arith, sym (every-none _ _))
+
+mul-slot : tie.Need-mul-slot Inv-loop μ-loop
+mul-slot c = search needs
+
+element-copy-out-slot : tie.Need-element-copy-out-slot Inv-loop μ-loop
+element-copy-out-slot c = search needs
+
+slot-fine-requires : tie.Need-slot-fine-requires Inv-loop μ-loop
+slot-fine-requires c κs = search needs
+
+both-requires : tie.Need-both-requires Inv-loop μ-loop
+both-requires c κs = search needs
+
+add-i : tie.Need-add-i Inv-loop μ-loop
+add-i c = search needs
+
+loop-less : tie.Need-loop-less Inv-loop μ-loop
+loop-less c = search needs
+
+loop-again : tie.Need-loop-again Inv-loop μ-loop
+loop-again c =
+    let l = c .before .before .before .before in
+    (omega arith, rw (every-more, c .both .ensures, c .before .slot-fine .ensures, l .loop .inv .1))
+
+both-requires-2 : tie.Need-both-requires-2 Inv-loop μ-loop
+both-requires-2 c κs = search needs
+
+both-requires-3 : tie.Need-both-requires-3 Inv-loop μ-loop
+both-requires-3 c κs = search needs
+
+returns : tie.Need-returns Inv-loop μ-loop
+unfolding inOrder
+returns c =
+    let l = c .before .before .before in
+    let e : l .loop .i ≡ slotCount = omega arith in
+    rw (c .both3 .ensures, c .before .both2 .ensures, l .loop .inv .1, e)
+
+pub in-order-spec : {M : Type 1} → statement M
+in-order-spec =
+    tie.close
+    (tie.spec
+    Inv-loop
+    μ-loop
+    loop-holds
+    mul-slot
+    element-copy-out-slot
+    slot-fine-requires
+    both-requires
+    add-i
+    loop-less
+    loop-again
+    both-requires-2
+    both-requires-3
+    returns)

@@ -1,0 +1,2 @@
+-- What a search over the slots looks for.
+pub mod Sought

@@ -1,0 +1,183 @@
+// The slots of the service record in code: the opening, one search and one count for all calls, and the check that a record
+// is in order. Records go by value; no field of one that comes in is trusted. An inner crate: `find` asks where to start.
+ghost use mathlib.Core.Path.{_≡_};
+ghost use mathlib.Core.Bool.{_&&_, cond};
+ghost use Prim.Native.Nat.{_≤_, _<_};
+ghost use Rattle.kernel.specs.Molecule.{unitsOf};
+ghost use Rattle.kernel.specs.Existence.{kernelExists};
+ghost use Rattle.limits.specs.Limits.{stepsInRange};
+ghost use Rattle.machine.specs.Slots.{slotCount, emptySlot, nextPlace, firstFrom, countOf, opening as openingOf};
+ghost use Rattle.machine.specs.Order.{isZero, allZero, filledFine, unshared, slotFine, inOrder as inOrderOf};
+ghost use Rattle.slots.specs.Sought.{testOf};
+use limits::Outcome;
+use machine::Found;
+use machine::Service;
+use machine::Slot;
+
+// What a search looks for.
+pub enum Sought {
+    Empty,
+    Filled,
+    WithStepsLeft,
+    Numbered(u64),
+}
+
+pub fn empty_slot() -> Slot
+    ensures { λ r. ⌜ r ≡ emptySlot ⌝ }
+{
+    Slot {
+        number: 0,
+        xx: 0,
+        xy: 0,
+        yy: 0,
+        steps: 0,
+        left: 0,
+        width: 0,
+        height: 0,
+    }
+}
+
+pub fn opening() -> Service
+    ensures { λ r. ⌜ r ≡ openingOf ⌝ }
+{
+    let empty = empty_slot();
+    let slots = [empty; 8];
+    Service {
+        slots,
+        last: 0,
+        filled: 7,
+        served: 7,
+    }
+}
+
+fn passes(sought: Sought, slot: Slot) -> bool
+    ensures { λ r. ⌜ r ≡ testOf sought slot ⌝ }
+{
+    match sought {
+        Sought::Empty => slot.number == 0,
+        Sought::Filled => slot.number != 0,
+        Sought::WithStepsLeft => 0 < slot.left,
+        Sought::Numbered(number) => slot.number == number,
+    }
+}
+
+// The place after a place, counted cyclically.
+pub fn next_place(place: usize) -> usize
+    requires { ⌜ place < slotCount ⌝ }
+    ensures { λ r. ⌜ (r ≡ nextPlace slotCount place) × (r < slotCount) ⌝ }
+{
+    if place + 1 < 8 { place + 1 } else { 0 }
+}
+
+// The first slot that passes, counted on cyclically from a place.
+pub fn find(service: Service, sought: Sought, start: usize) -> Found
+    requires { ⌜ start < slotCount ⌝ }
+    ensures { λ r. ⌜ r ≡ firstFrom (testOf sought) (service .slots) slotCount start slotCount ⌝ }
+{
+    let mut place = start;
+    let mut more = 8usize;
+    while 0 < more {
+        let slot = service.slots[place];
+        if passes(sought, slot) {
+            return Found::At(place);
+        }
+        place = next_place(place);
+        more -= 1;
+    }
+    Found::Nothing
+}
+
+// How many slots pass.
+pub fn tally(service: Service, sought: Sought) -> u32
+    ensures { λ r. ⌜ r ≡ countOf (testOf sought) (service .slots) slotCount ⌝ }
+{
+    let mut count = 0u32;
+    let mut i = 0usize;
+    while i < 8 {
+        let slot = service.slots[i];
+        if passes(sought, slot) {
+            count += 1;
+        }
+        i += 1;
+    }
+    count
+}
+
+fn both(a: bool, b: bool) -> bool
+    ensures { λ r. ⌜ r ≡ (a && b) ⌝ }
+{
+    if a { b } else { false }
+}
+
+fn is_zero(v: i32) -> bool
+    ensures { λ r. ⌜ r ≡ isZero v ⌝ }
+{
+    v == 0
+}
+
+// Whether the steps are in range and a kernel exists.
+pub fn has_kernel(xx: i32, xy: i32, yy: i32, steps: u32) -> bool
+    ensures { λ r. ⌜ r ≡ (stepsInRange steps && kernelExists xx xy yy (unitsOf steps)) ⌝ }
+{
+    let answer = kernel::kernel_of(xx, xy, yy, steps);
+    let outcome = answer.outcome;
+    match outcome {
+        Outcome::Accepted => true,
+        Outcome::Refused(_) => false,
+    }
+}
+
+// An empty slot is all zero: besides its number, each of its numbers.
+fn all_zero(slot: Slot) -> bool
+    ensures { λ r. ⌜ r ≡ allZero slot ⌝ }
+{
+    let sizes = both(
+        slot.steps == 0,
+        both(slot.left == 0, both(slot.width == 0, slot.height == 0)),
+    );
+    both(
+        is_zero(slot.xx),
+        both(is_zero(slot.xy), both(is_zero(slot.yy), sizes)),
+    )
+}
+
+fn filled_fine(last: u64, slot: Slot) -> bool
+    ensures { λ r. ⌜ r ≡ filledFine last slot ⌝ }
+{
+    let numbers = both(slot.number <= last, slot.left <= slot.steps);
+    let sides = both(
+        limits::sides_in_range(slot.width, slot.height),
+        both(limits::fits_buffer(slot.width, slot.height), numbers),
+    );
+    both(has_kernel(slot.xx, slot.xy, slot.yy, slot.steps), sides)
+}
+
+fn is_unshared(service: Service, slot: Slot) -> bool
+    ensures { λ r. ⌜ r ≡ unshared (service .slots) slot ⌝ }
+{
+    let number = slot.number;
+    tally(service, Sought::Numbered(number)) == 1
+}
+
+fn slot_fine(service: Service, slot: Slot) -> bool
+    ensures { λ r. ⌜ r ≡ slotFine service slot ⌝ }
+{
+    if slot.number == 0 {
+        return all_zero(slot);
+    }
+    both(filled_fine(service.last, slot), is_unshared(service, slot))
+}
+
+// The test of refusal 2 for a record: it reads no pixel.
+pub fn in_order(service: Service) -> bool
+    ensures { λ r. ⌜ r ≡ inOrderOf service ⌝ }
+{
+    let mut fine = true;
+    let mut i = 0usize;
+    while i < 8 {
+        let slot = service.slots[i];
+        fine = both(fine, slot_fine(service, slot));
+        i += 1;
+    }
+    both(fine, both(service.filled < 8, service.served < 8))
+}

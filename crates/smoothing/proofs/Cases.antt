@@ -1,0 +1,81 @@
+-- Worked cases: the order of the refusals of a run, and what short runs leave in both pictures and show. Each table has one
+-- computed proof. Assumes nothing.
+use mathlib.Core.Path.{_≡_, refl}
+use mathlib.Core.Bool.{false}
+use mathlib.Core.List.{List, [], _∷_, map}
+use Prim.Native.Nat.{ℕ, _*_}
+use lib.IntN.{pos}
+use lib.Ieee.{Float, nan, fin, add, mul, le}
+use Rattle.limits.specs.Errors.{firstRefusal, outcomeNumber}
+use Rattle.kernel.specs.Molecule.{kernelWith}
+use Rattle.kernel.specs.Existence.{kernelExists}
+use Rattle.image.specs.Image.{pixelAt, entries, rows}
+use Rattle.covariance.specs.declared.Direction.{Direction}
+use Rattle.covariance.specs.declared.Shape.{Shape}
+use Rattle.covariance.specs.declared.Shape.the-variants.{Matrix, Oval}
+use Rattle.covariance.specs.Floats.{inRange}
+use Rattle.covariance.specs.Units.{nearestUnits}
+use Rattle.covariance.specs.Shapes.{varianceInRange, cosineInRange, squareInRange, directionInRange, variancesFine, directionFine, covarianceXX, covarianceXY, covarianceYY}
+use Rattle.averaging.specs.Steps.{weightedAt, stepOf, iterate}
+use Rattle.smoothing.specs.Runs.{runChecks, Result, runOf}
+use Rattle.smoothing.specs.Shown.{shownOf}
+
+-- ---- a shape, k, w, h, the lengths of the two pictures, and the number of the first refusal that applies: from row to row the
+-- first fault of the row before is mended
+pub record Request : Type 0 where
+  pub shape : Shape
+  pub steps : ℕ
+  pub width : ℕ
+  pub height : ℕ
+  pub first : ℕ
+  pub second : ℕ
+  pub refusal : ℕ
+
+abbrev pub request : Shape → ℕ → ℕ → ℕ → ℕ → ℕ → ℕ → Request
+request shape k w h n m r = record { shape = shape; steps = k; width = w; height = h; first = n; second = m; refusal = r }
+
+abbrev pub one : Float
+one = fin false 1 (pos 0)
+
+abbrev pub two : Float
+two = fin false 1 (pos 1)
+
+abbrev pub towards : Float → Float → Direction
+towards c s = record { cosine = c; sine = s }
+
+abbrev pub requests : List Request
+requests =
+    request (Oval nan one (towards two two)) 0 0 0 1 1 3
+    ∷ request (Oval one one (towards two two)) 0 0 0 1 1 4
+    ∷ request (Oval one one (towards one (fin false 0 (pos 0)))) 0 0 0 1 1 5
+    ∷ request (Matrix (pos 4097) (pos 0) (pos 4096)) 65 0 0 1 1 5
+    ∷ request (Matrix (pos 4097) (pos 0) (pos 4096)) 1 0 3 1 1 6
+    ∷ request (Matrix (pos 4097) (pos 0) (pos 4096)) 1 3 1025 1 1 6
+    ∷ request (Matrix (pos 4097) (pos 0) (pos 4096)) 1 3 3 10 8 9
+    ∷ request (Matrix (pos 4097) (pos 0) (pos 4096)) 1 3 3 9 8 9
+    ∷ request (Matrix (pos 4097) (pos 0) (pos 4096)) 1 3 3 9 9 11
+    ∷ request (Matrix (pos 4097) (pos 0) (pos 4096)) 2 3 3 9 9 0
+    ∷ request (Matrix (pos 4097) (pos 0) (pos 4096)) 64 1024 1024 1048576 1048576 0
+    ∷ []
+
+pub requested : map (λ r. outcomeNumber (firstRefusal (runChecks (r .shape) (r .steps) (r .width) (r .height) (r .first) (r .second)))) requests
+    ≡ map (λ r. r .refusal) requests
+unfolding variancesFine directionFine varianceInRange directionInRange cosineInRange squareInRange inRange covarianceXX covarianceXY covarianceYY nearestUnits kernelExists add mul le
+requested = refl
+
+-- ---- k steps that go half to the left and half to the right, over the row 0 4 0 0, the second picture full of nines: k, the
+-- two pictures after the run, and what is shown of them. After 65 steps nothing has changed, and nothing is shown.
+abbrev pub after : ℕ → Result
+after k = runOf (Matrix (pos (4096 * k)) (pos 0) (pos 0)) k 4 1 (0 ∷ 4 ∷ 0 ∷ 0 ∷ []) (9 ∷ 9 ∷ 9 ∷ 9 ∷ [])
+
+abbrev pub runs : List (ℕ × List ℕ × List ℕ × List ℕ)
+runs =
+    (1, 0 ∷ 4 ∷ 0 ∷ 0 ∷ [], 2 ∷ 0 ∷ 2 ∷ 0 ∷ [], 2 ∷ 0 ∷ 2 ∷ 0 ∷ [])
+    ∷ (2, 1 ∷ 2 ∷ 0 ∷ 1 ∷ [], 2 ∷ 0 ∷ 2 ∷ 0 ∷ [], 1 ∷ 2 ∷ 0 ∷ 1 ∷ [])
+    ∷ (3, 1 ∷ 2 ∷ 0 ∷ 1 ∷ [], 2 ∷ 1 ∷ 2 ∷ 1 ∷ [], 2 ∷ 1 ∷ 2 ∷ 1 ∷ [])
+    ∷ (65, 0 ∷ 4 ∷ 0 ∷ 0 ∷ [], 9 ∷ 9 ∷ 9 ∷ 9 ∷ [], [])
+    ∷ []
+
+pub ran : map (λ row. (row .0, after (row .0) .first, after (row .0) .second, shownOf (row .0) 4 1 (after (row .0) .first) (after (row .0) .second))) runs ≡ runs
+unfolding variancesFine directionFine covarianceXX covarianceXY covarianceYY kernelExists kernelWith pixelAt entries rows weightedAt stepOf iterate runOf shownOf
+ran = refl

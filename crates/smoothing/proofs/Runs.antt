@@ -1,0 +1,81 @@
+-- What the checks of a run say of its kernel and of its pictures. Assumes nothing.
+use mathlib.Core.Path.{_≡_, refl, _∙_}
+use mathlib.Core.List.{List, [], _∷_, _++_}
+use Prim.Native.Nat.{ℕ, _*_, _≤_}
+use lib.IntN.{ℤ}
+use borrow.Author.Tests.{eqb-true}
+use Rattle.limits.specs.Limits.{longestSide, mostSteps, sideInRange}
+use Rattle.limits.specs.Errors.{Check, _otherwise_, firstRefusal}
+use Rattle.limits.specs.declared.Outcome.{Outcome}
+use Rattle.limits.specs.declared.Outcome.the-variants.{Accepted, Refused}
+use Rattle.limits.specs.declared.ErrorCode.{ErrorCode}
+use Rattle.limits.specs.declared.ErrorCode.the-variants.{NoKernel}
+use Rattle.limits.proofs.Laws.{both-true, in-range}
+use Rattle.kernel.specs.declared.Kernel.{Kernel}
+use Rattle.kernel.specs.Molecule.{unitsOf}
+use Rattle.kernel.specs.Existence.{kernelExists}
+use Rattle.kernel.specs.Sound.{Sound}
+use Rattle.kernel.specs.Answer.{answerWith, kernelAnswer}
+use Rattle.kernel.proofs.Theorems.{sound}
+use Rattle.covariance.specs.declared.Shape.{Shape}
+use Rattle.covariance.specs.declared.Covariance.{Covariance}
+use Rattle.covariance.specs.Shapes.{covarianceXX, covarianceXY, covarianceYY}
+use Rattle.covariance.specs.Answer.{covarianceAnswer}
+use Rattle.covariance.proofs.Answers.{Passed, stopped, kernel-passed}
+use Rattle.stepping.specs.Step.{StepKernel, Filled}
+use Rattle.smoothing.specs.Runs.{runChecks, kernelOfShape, runWith}
+use Rattle.smoothing.specs.Shown.{shownChecks}
+use Rattle.smoothing.proofs.Checks.{refused-not-accepted, all-hold, in-turn}
+
+-- ---- the pictures
+module _ (k w h n m : ℕ) (accepted : firstRefusal (shownChecks k w h n m) ≡ Accepted) where
+  pub some-steps : 1 ≤ k
+  some-steps = in-range 1 mostSteps k (all-hold (shownChecks k w h n m) accepted .0) .0
+
+  pub filled : Filled n m w h
+  filled =
+      let holds = all-hold (shownChecks k w h n m) accepted in
+      let sides = both-true (sideInRange w) (sideInRange h) (holds .1 .0) in
+      record {
+        wide = in-range 1 longestSide w (sides .0) .0;
+        high = in-range 1 longestSide h (sides .1) .0;
+        narrow = in-range 1 longestSide w (sides .0) .1;
+        source = eqb-true n (w * h) (holds .1 .1 .0);
+        target = eqb-true m (w * h) (holds .1 .1 .1 .0);
+      }
+
+-- ---- the checks of a run: those of its shape, then those of its pictures, then that of its kernel
+module _ (shape : Shape) (k w h n m : ℕ) where
+  abbrev kernelCheck : List Check
+  kernelCheck = (kernelExists (covarianceXX shape) (covarianceXY shape) (covarianceYY shape) (unitsOf k) otherwise NoKernel) ∷ []
+
+  pub shape-refused : (code : ErrorCode) → covarianceAnswer shape ≡ Covariance.Refused code → firstRefusal (runChecks shape k w h n m) ≡ Refused code
+  shape-refused code e = stopped shape code (shownChecks k w h n m ++ kernelCheck) e
+
+  module _ (xx xy yy : ℤ) (p : Passed shape xx xy yy) where
+    pub pictures-refused : (code : ErrorCode) → firstRefusal (shownChecks k w h n m) ≡ Refused code → firstRefusal (runChecks shape k w h n m) ≡ Refused code
+    pictures-refused code e = rw (p .variances, p .direction) (in-turn (shownChecks k w h n m) kernelCheck ∙ rw e)
+
+    pub kernel-decides : firstRefusal (shownChecks k w h n m) ≡ Accepted
+        → kernelAnswer xx xy yy k ≡ answerWith (firstRefusal (runChecks shape k w h n m)) (kernelOfShape shape k)
+    kernel-decides e =
+        let steps = all-hold (shownChecks k w h n m) e .0 in
+        kernel-passed shape k p ∙ rw (p .variances, p .direction, in-turn (shownChecks k w h n m) kernelCheck, e, steps)
+
+  -- the kernel of an accepted run is one to make steps with
+  pub kernel-sound : firstRefusal (runChecks shape k w h n m) ≡ Accepted → Sound (kernelOfShape shape k) k
+  kernel-sound e =
+      let holds = all-hold (runChecks shape k w h n m) e in
+      sound (covarianceXX shape) (covarianceXY shape) (covarianceYY shape) k (holds .1 .1 .0) (holds .1 .1 .1 .1 .1 .1 .0)
+
+-- ---- an answer with a kernel, or with a refusal
+module _ (kernel : Kernel) (k : ℕ) where
+  pub step-kernel : (outcome : Outcome) → (outcome ≡ Accepted → Sound kernel k)
+      → answerWith outcome kernel .outcome ≡ Accepted → StepKernel (answerWith outcome kernel .kernel)
+  step-kernel Accepted s e = record { steps = k; sound = s refl }
+  step-kernel (Refused code) s e = absurd (refused-not-accepted e)
+
+  pub same-run : (w h : ℕ) (first second : List ℕ) (outcome : Outcome)
+      → runWith (answerWith outcome kernel .outcome) (answerWith outcome kernel .kernel) k w h first second ≡ runWith outcome kernel k w h first second
+  same-run w h first second Accepted = refl
+  same-run w h first second (Refused code) = refl

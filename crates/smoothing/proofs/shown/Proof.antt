@@ -1,0 +1,79 @@
+-- `smoothing::shown` meets its contract: where the checks pass, each picture has w × h pixels, and the parity of the steps says
+-- which is shown; else no pixel is. Assumes nothing.
+use mathlib.Core.Path.{_≡_, sym, _∙_}
+use native.Mathlib.Omega.{arith}
+use lib.ListN.{length}
+use lib.Seq.{length-take-le}
+use borrow.Author.Needs.{needs}
+use Rattle.limits.specs.Errors.{firstRefusal}
+use Rattle.limits.specs.declared.Outcome.the-variants.{Accepted}
+use Rattle.stepping.specs.Step.{Filled}
+use Rattle.smoothing.specs.Shown.{shownChecks, shownOf}
+use Rattle.smoothing.proofs.Steps.{even, odd}
+use Rattle.smoothing.proofs.Runs.{filled}
+use Rattle.smoothing.proofs.shown.Statement.{statement}
+use Rattle.smoothing.proofs.shown.Tie as tie
+
+checked-requires : tie.Need-checked-requires
+checked-requires c κs = search needs
+
+enum-told : tie.Need-enum-told
+enum-told c = search needs
+
+area-requires : tie.Need-area-requires
+area-requires c κs = search needs
+
+-- the checks passed ..
+fine : (c : tie.After-area) → let a = c .before .before .before .before .before .before .args in
+    firstRefusal (shownChecks (a .steps) (a .width) (a .height) (length (a .first .now)) (length (a .second .now))) ≡ Accepted
+fine c = sym (c .before .before .before .checked .ensures) ∙ c .before .enum-told .given .1
+
+-- .. and so both pictures have w × h pixels
+full : (c : tie.After-area) → let a = c .before .before .before .before .before .before .args in
+    Filled (length (a .first .now)) (length (a .second .now)) (a .width) (a .height)
+full c =
+    let a = c .before .before .before .before .before .before .args in
+    filled (a .steps) (a .width) (a .height) (length (a .first .now)) (length (a .second .now)) (fine c)
+
+slice-aggregate-result : tie.Need-slice-aggregate-result
+slice-aggregate-result c = let f = full (c .before .before) in sym (length-take-le _ _ (omega arith))
+
+slice-aggregate-result-2 : tie.Need-slice-aggregate-result-2
+slice-aggregate-result-2 c = let f = full (c .before .before) in sym (length-take-le _ _ (omega arith))
+
+enum-told-2 : tie.Need-enum-told-2
+enum-told-2 c = search needs
+
+slice-aggregate-result-3 : tie.Need-slice-aggregate-result-3
+slice-aggregate-result-3 c = search needs
+
+returns : tie.Need-returns
+unfolding shownOf
+returns c =
+    let a = c .before .before .before .before .before .before .before .before .args in
+    rw (fine (c .before .before), even (a .steps) (omega arith), c .before .before .area .ensures)
+
+returns-2 : tie.Need-returns-2
+unfolding shownOf
+returns-2 c =
+    let a = c .before .before .before .before .before .before .before .before .args in
+    rw (fine (c .before .before), odd (a .steps) (omega arith), c .before .before .area .ensures)
+
+returns-3 : tie.Need-returns-3
+unfolding shownOf
+returns-3 c = rw (← c .before .before .before .checked .ensures, c .before .enum-told2 .given .1)
+
+pub shown-spec : {M : Type 1} → statement M
+shown-spec =
+    tie.close
+    (tie.spec
+    checked-requires
+    enum-told
+    area-requires
+    slice-aggregate-result
+    slice-aggregate-result-2
+    enum-told-2
+    slice-aggregate-result-3
+    returns
+    returns-2
+    returns-3)

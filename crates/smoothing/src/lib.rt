@@ -1,0 +1,164 @@
+// The run: k smoothing steps between two lent pictures, there and back, and the part of the two that its reader is shown. Both
+// public calls take any numbers and any lengths: what does not fit is refused, and then no pixel has changed.
+ghost use mathlib.Core.Path.{_≡_};
+ghost use Prim.Native.Nat.{_≤_};
+ghost use lib.ListN.{length};
+ghost use Rattle.limits.specs.Errors.{firstRefusal};
+ghost use Rattle.averaging.specs.Steps.{stepOf, stepsOf};
+ghost use Rattle.stepping.specs.Step.{StepKernel, Filled};
+ghost use Rattle.smoothing.specs.Runs.{stepsInFirst, stepsInSecond, runWith, runOf};
+ghost use Rattle.smoothing.specs.Shown.{shownChecks, shownOf};
+use covariance::Covariance;
+use covariance::Shape;
+use kernel::Kernel;
+use kernel::KernelAnswer;
+use limits::ErrorCode;
+use limits::Outcome;
+
+// Two steps, from the first picture to the second and back.
+fn there_and_back(
+    first: &mut [u16],
+    second: &mut [u16],
+    width: usize,
+    height: usize,
+    kernel: Kernel,
+)
+    requires { ⌜ StepKernel kernel ⌝ }
+    requires { ⌜ Filled (length (now first)) (length (now second)) width height ⌝ }
+    ensures { λ _. ⌜ now (second .exit) ≡ stepOf kernel width height (now (first .entry)) ⌝ }
+    ensures { λ _. ⌜ now (first .exit) ≡ stepOf kernel width height (now (second .exit)) ⌝ }
+{
+    stepping::step(first, second, width, height, kernel);
+    stepping::step(second, first, width, height, kernel);
+}
+
+// The steps of a run in pairs, and the last one by itself where their number is odd.
+fn run_steps(
+    first: &mut [u16],
+    second: &mut [u16],
+    width: usize,
+    height: usize,
+    steps: u32,
+    kernel: Kernel,
+)
+    requires { ⌜ StepKernel kernel ⌝ }
+    requires { ⌜ Filled (length (now first)) (length (now second)) width height ⌝ }
+    requires { ⌜ 1 ≤ steps ⌝ }
+    ensures { λ _. ⌜ now (first .exit) ≡ stepsOf kernel width height (stepsInFirst steps) (now (first .entry)) ⌝ }
+    ensures { λ _. ⌜ now (second .exit) ≡ stepsOf kernel width height (stepsInSecond steps) (now (first .entry)) ⌝ }
+{
+    for _ in 0..steps / 2 {
+        there_and_back(first, second, width, height, kernel);
+    }
+    if steps % 2 == 1 {
+        stepping::step(first, second, width, height, kernel);
+    }
+}
+
+// A run with the kernel of an answer, or the refusal that the answer has in its place.
+fn run_with(
+    answer: KernelAnswer,
+    steps: u32,
+    width: u32,
+    height: u32,
+    first: &mut [u16],
+    second: &mut [u16],
+) -> Outcome
+    requires { ⌜ (answer .outcome ≡ Outcome.Accepted → StepKernel (answer .kernel)) ⌝ }
+    requires { ⌜ Filled (length (now first)) (length (now second)) width height ⌝ }
+    requires { ⌜ 1 ≤ steps ⌝ }
+    ensures { λ r. ⌜ r ≡ runWith (answer .outcome) (answer .kernel) steps width height (now (first .entry)) (now (second .entry)) .outcome ⌝ }
+    ensures { λ _. ⌜ now (first .exit) ≡ runWith (answer .outcome) (answer .kernel) steps width height (now (first .entry)) (now (second .entry)) .first ⌝ }
+    ensures { λ _. ⌜ now (second .exit) ≡ runWith (answer .outcome) (answer .kernel) steps width height (now (first .entry)) (now (second .entry)) .second ⌝ }
+{
+    let outcome = answer.outcome;
+    let kernel = answer.kernel;
+    match outcome {
+        Outcome::Accepted => {
+            run_steps(
+                first,
+                second,
+                width as usize,
+                height as usize,
+                steps,
+                kernel,
+            );
+            Outcome::Accepted
+        }
+        Outcome::Refused(code) => Outcome::Refused(code),
+    }
+}
+
+// Refusals 5, 6 and 9, the first that applies, of two lent pictures of so many pixels.
+fn checked(steps: u32, width: u32, height: u32, first: usize, second: usize) -> Outcome
+    ensures { λ r. ⌜ r ≡ firstRefusal (shownChecks steps width height first second) ⌝ }
+{
+    let steps_fine = limits::steps_in_range(steps);
+    let sides_fine = limits::sides_in_range(width, height);
+    let first_fine = limits::fills_picture(first, width, height);
+    let second_fine = limits::fills_picture(second, width, height);
+    if !steps_fine {
+        return Outcome::Refused(ErrorCode::StepsOutOfRange);
+    }
+    if !sides_fine {
+        return Outcome::Refused(ErrorCode::SideOutOfRange);
+    }
+    if !first_fine {
+        return Outcome::Refused(ErrorCode::WrongLength);
+    }
+    if !second_fine {
+        return Outcome::Refused(ErrorCode::WrongLength);
+    }
+    Outcome::Accepted
+}
+
+// Document 01's run: the first picture is smoothed in so many steps with the kernel of a shape, or refusal 3, 4, 5, 6, 9 or 11.
+// The last step ends in the first picture where their number is even, else in the second; the other holds the step before it.
+pub fn run(
+    shape: Shape,
+    steps: u32,
+    width: u32,
+    height: u32,
+    first: &mut [u16],
+    second: &mut [u16],
+) -> Outcome
+    ensures outcome { λ r. ⌜ r ≡ runOf shape steps width height (now (first .entry)) (now (second .entry)) .outcome ⌝ }
+    ensures first { λ _. ⌜ now (first .exit) ≡ runOf shape steps width height (now (first .entry)) (now (second .entry)) .first ⌝ }
+    ensures second { λ _. ⌜ now (second .exit) ≡ runOf shape steps width height (now (first .entry)) (now (second .entry)) .second ⌝ }
+{
+    match covariance::covariance_of(shape) {
+        Covariance::Entries(xx, xy, yy) => {
+            match checked(steps, width, height, first.len(), second.len()) {
+                Outcome::Accepted => {
+                    let answer = kernel::kernel_of(xx, xy, yy, steps);
+                    run_with(answer, steps, width, height, first, second)
+                }
+                Outcome::Refused(code) => Outcome::Refused(code),
+            }
+        }
+        Covariance::Refused(code) => Outcome::Refused(code),
+    }
+}
+
+// What the reader of a run is shown: the pixels of its last step, or an empty part where refusal 5, 6 or 9 applies.
+pub fn shown<'a>(
+    steps: u32,
+    width: u32,
+    height: u32,
+    first: &'a [u16],
+    second: &'a [u16],
+) -> &'a [u16]
+    ensures { λ r. ⌜ now r ≡ shownOf steps width height (now (first .entry)) (now (second .entry)) ⌝ }
+{
+    match checked(steps, width, height, first.len(), second.len()) {
+        Outcome::Accepted => {
+            let size = limits::area(width, height);
+            if steps % 2 == 0 {
+                &first[..size]
+            } else {
+                &second[..size]
+            }
+        }
+        Outcome::Refused(_) => &first[..0],
+    }
+}

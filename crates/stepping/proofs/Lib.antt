@@ -1,0 +1,7 @@
+-- The laws that the proofs share, and those that a caller of the row core cites.
+pub mod Division
+pub mod Averages
+pub mod Buffers
+pub mod Pixels
+pub mod Rows
+pub mod Windows

@@ -1,0 +1,64 @@
+-- The lines of a window: a row is loaded into the line below, which changes neither of the others; and a row further down
+-- each line has the name of the one above it. Assumes nothing.
+use mathlib.Core.Path.{_≡_, ap, _∙_}
+use mathlib.Core.List.{List}
+use Prim.Native.Nat.{ℕ, _+_, _≤_}
+use native.Mathlib.Omega.{arith}
+use lib.ListN.{length}
+use lib.Seq.{paste, length-paste}
+use Rattle.stepping.specs.Rows.{paddedOf, AllPixels}
+use Rattle.stepping.specs.Buffers.{part, Inside, Slots, Loaded}
+use Rattle.stepping.specs.declared.Window.{Window}
+use Rattle.stepping.proofs.Buffers.{length-part, part-written, part-kept, apart-sym}
+use Rattle.stepping.proofs.Rows.{length-padded}
+
+-- a window of lines of pixels, and a row that fits
+pub inside : (l : List ℕ) (v : Window) (m i w : ℕ) → v .above + (w + 2) ≤ length l → v .at + (w + 2) ≤ length l → v .below + (w + 2) ≤ length l
+    → AllPixels (part (v .above) (w + 2) l) → AllPixels (part (v .at) (w + 2) l) → AllPixels (part (v .below) (w + 2) l) → i + w ≤ m → Inside l v m i w
+inside l v m i w above at below pa pt pb row =
+    record {
+      above = above;
+      at = at;
+      below = below;
+      row = row;
+      pixels =
+          record {
+            up = length-part (v .above) (w + 2) l above;
+            mid = length-part (v .at) (w + 2) l at;
+            down = length-part (v .below) (w + 2) l below;
+            up-pixels = pa;
+            mid-pixels = pt;
+            down-pixels = pb;
+          };
+    }
+
+-- the buffers l after row r was loaded below
+pub record Below (l o : List ℕ) (v : Window) (w : ℕ) (r : List ℕ) : Type 0 where
+  pub size : length o ≡ length l
+  pub above : part (v .above) (w + 2) o ≡ part (v .above) (w + 2) l
+  pub at : part (v .at) (w + 2) o ≡ part (v .at) (w + 2) l
+  pub below : part (v .below) (w + 2) o ≡ paddedOf r
+
+pub load-below : (l : List ℕ) (v : Window) (w : ℕ) (r : List ℕ) {o : List ℕ} → Slots (length l) (w + 2) v → length r ≡ w
+    → o ≡ paste l (v .below) (paddedOf r) (w + 2) → Below l o v w r
+load-below l v w r slots lr e =
+    let n : length (paddedOf r) ≡ w + 2 = length-padded r ∙ ap (λ (m : ℕ). m + 2) lr in
+    record {
+      size = ap length e ∙ length-paste l (v .below) (paddedOf r) (w + 2) (slots .below) (omega arith);
+      above = rw e (part-kept l (v .below) (w + 2) (paddedOf r) (slots .below) n (v .above) (slots .above) (apart-sym (w + 2) (v .below) (v .above) (slots .below-above)));
+      at = rw e (part-kept l (v .below) (w + 2) (paddedOf r) (slots .below) n (v .at) (slots .at) (slots .at-below));
+      below = rw e (part-written l (v .below) (w + 2) (paddedOf r) (slots .below) n);
+    }
+
+-- then a row further down is loaded
+pub move-down : (l o : List ℕ) (v u : Window) (w : ℕ) (a b c : List ℕ) → Loaded l v w a b → Below l o v w c
+    → (u .above ≡ v .at) × (u .at ≡ v .below) × (u .below ≡ v .above) → Loaded o u w b c
+move-down l o v u w a b c loaded below (ea, et, eb) =
+    let s = loaded .slots in
+    record {
+      slots =
+          rw (below .size, ea, et, eb)
+          (record { above = s .at; at = s .below; below = s .above; above-at = s .at-below; at-below = s .below-above; below-above = s .above-at });
+      above = rw ea (below .at ∙ loaded .at);
+      at = rw et (below .below);
+    }

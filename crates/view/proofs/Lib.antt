@@ -1,0 +1,3 @@
+-- What the walks share, and worked cases.
+pub mod Walk
+pub mod Cases

@@ -1,0 +1,2 @@
+-- Worked readings.
+pub mod Table
