@@ -1,6 +1,7 @@
-//! Inputs for test vectors: listed border cases, and random ones that keep
-//! close to the borders.
+//! Inputs for tests: listed border cases, and random ones that keep close to
+//! the borders.
 
+use crate::job_text::{Job, MAX_TEXT};
 use crate::kernel::{Covariance, UNITS};
 use crate::random::Random;
 use crate::shape::{Direction, Shape};
@@ -460,4 +461,123 @@ pub fn random_shape(random: &mut Random) -> (Shape, u32) {
             (oval(long, short, cosine, sine), steps)
         }
     }
+}
+
+/// Pixels of one of several kinds: any, the ends, few units, single bright ones.
+pub fn random_pixels(random: &mut Random, count: usize) -> Vec<u16> {
+    let kind = random.below(5);
+    (0..count)
+        .map(|_| match kind {
+            0 => random.pick(&[0, 65535]),
+            1 => random.below(3) as u16,
+            2 => random.pick(&[0, 0, 0, 0, 0, 0, 0, 1600]),
+            _ => random.bits() as u16,
+        })
+        .collect()
+}
+
+/// The text of a job.
+pub const A_JOB: &str = "J\t1000\t-1\t2000\t1\t2\t2\n0\t65535\n10\t9\n";
+
+/// Each of these differs from the text of a job in one thing.
+pub const TEXTS_THAT_ARE_NO_JOBS: &[&str] = &[
+    "",
+    "\n",
+    "J",
+    "J\n",
+    "J\t0\t0\t0\t1\t1\t1\n",
+    "J\t0\t0\t0\t1\t1\t1\n0",
+    "J\t0\t0\t0\t1\t1\t1\n0\n\n",
+    "J\t0\t0\t0\t1\t1\t1\n0\n0\n",
+    "J\t0\t0\t0\t1\t1\t1\n0\t0\n",
+    "J\t0\t0\t0\t1\t1\t1\n\n",
+    "J\t0\t0\t0\t1\t1\t1\n0\t\n",
+    "J\t0\t0\t0\t1\t1\t1\n\t0\n",
+    "J\t0\t0\t0\t1\t1\t1\r\n0\n",
+    "J\t0\t0\t0\t1\t1\t1\n0\r\n",
+    "J\t0\t0\t0\t1\t1\t1\n 0\n",
+    "J\t0\t0\t0\t1\t1\t1\n00\n",
+    "J\t0\t0\t0\t1\t1\t1\n-0\n",
+    "J\t0\t0\t0\t1\t1\t1\n+0\n",
+    "J\t0\t0\t0\t1\t1\t1\n-1\n",
+    "J\t0\t0\t0\t1\t1\t1\n65536\n",
+    "J\t0\t0\t0\t1\t1\t1\na\n",
+    "J\t0\t0\t0\t1\t1\t1\n1a\n",
+    "J\t0\t0\t0\t1\t1\t1\n0x1\n",
+    "J\t0\t0\t0\t1\t1\t1\n100000000000000000000000000000000000000000\n",
+    "j\t0\t0\t0\t1\t1\t1\n0\n",
+    "JJ\t0\t0\t0\t1\t1\t1\n0\n",
+    "\nJ\t0\t0\t0\t1\t1\t1\n0\n",
+    "J \t0\t0\t0\t1\t1\t1\n0\n",
+    "J\t0\t0\t0\t1\t1\n0\n",
+    "J\t0\t0\t0\t1\t1\t1\t1\n0\n",
+    "J\t\t0\t0\t0\t1\t1\t1\n0\n",
+    "J\t0\t0\t0\t1\t1\t1\t\n0\n",
+    "J 0 0 0 1 1 1\n0\n",
+    "J\t-0\t0\t0\t1\t1\t1\n0\n",
+    "J\t0\t01\t0\t1\t1\t1\n0\n",
+    "J\t0\t-01\t0\t1\t1\t1\n0\n",
+    "J\t0\t--1\t0\t1\t1\t1\n0\n",
+    "J\t0\t-\t0\t1\t1\t1\n0\n",
+    "J\t0\t+1\t0\t1\t1\t1\n0\n",
+    "J\t2147483648\t0\t0\t1\t1\t1\n0\n",
+    "J\t-2147483649\t0\t0\t1\t1\t1\n0\n",
+    "J\t4294967296\t0\t0\t1\t1\t1\n0\n",
+    "J\t0\t0\t0\t4294967296\t1\t1\n0\n",
+    "J\t0\t0\t0\t4294967297\t1\t1\n0\n",
+    "J\t0\t0\t0\t-1\t1\t1\n0\n",
+    "J\t0\t0\t0\t1\t-1\t1\n0\n",
+    "J\t0\t0\t0\t1\t4294967297\t1\n0\n",
+    "J\t0\t0\t0\t1\t65536\t65536\n",
+    "J\t0\t0\t0\t1\t4294967295\t4294967295\n0\n",
+    "J\t0\t0\t0\t1\t0\t3\n\n\n\n",
+    "J\t0\t0\t0\t1\t0\t1\n\n",
+    "J\t0\t0\t0\t1\t3\t0\n\n",
+    "J\t0\t0\t0\t1\t0\t0\n0\n",
+    "J\t0\t0\t0\t1\t0\t0\nx",
+];
+
+/// Numbers of the fields' types, and a small picture.
+pub fn random_job(random: &mut Random) -> Job {
+    let width = random.below(6) as u32;
+    let height = random.below(6) as u32;
+    Job {
+        covariance: Covariance {
+            xx: random.bits() as i32 >> random.below(32),
+            xy: random.bits() as i32 >> random.below(32),
+            yy: random.bits() as i32 >> random.below(32),
+        },
+        steps: random.bits() as u32 >> random.below(32),
+        width,
+        height,
+        pixels: (0..width * height)
+            .map(|_| random.bits() as u16 >> random.below(16))
+            .collect(),
+    }
+}
+
+/// A text with one or two bytes changed, left out or added.
+pub fn damaged_text(random: &mut Random, text: &[u8]) -> Vec<u8> {
+    const BYTES: &[u8] = b"0123456789-+\t\n\r JRx\0\xff";
+    let mut text = text.to_vec();
+    for _ in 0..=random.below(2) {
+        let place = random.below(text.len() as u64) as usize;
+        match random.below(3) {
+            0 => text[place] = random.pick(BYTES),
+            1 => {
+                text.remove(place);
+            }
+            _ => text.insert(place, random.pick(BYTES)),
+        }
+    }
+    text
+}
+
+/// A job whose text has so many bytes more than the longest that is one.
+pub fn longest_text(more: usize) -> Vec<u8> {
+    let row = vec!["7"; 90].join("\t") + "\n";
+    let text = "J\t2048\t0\t2048\t2\t90\t90\n".to_string() + &row.repeat(90);
+    // Longer pixels make up the rest.
+    let missing = MAX_TEXT + more - text.len();
+    text.replacen("7\t7", "10\t7", missing).into_bytes()
 }

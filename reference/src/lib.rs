@@ -13,16 +13,18 @@
 //! - [`smooth`]: the pixel at a place, a step, a run, the exact run and the distance from it.
 //! - [`difference`]: the five undivided differences and the directional one.
 //! - [`service`]: eight slots over a buffer pool, served by round robin.
+//! - [`lists`]: demand 3 as a check of lists of calls, of this service or another.
 //! - [`job_text`]: the text of a bench job, and what the bench program prints.
 //! - [`natural`]: whole numbers of any size, for the exact run.
 //! - [`random`]: repeatable pseudo-random numbers.
-//! - [`generate`]: inputs for test vectors, border cases first.
+//! - [`generate`]: inputs for tests and test vectors, border cases first.
 
 pub mod difference;
 pub mod error_code;
 pub mod generate;
 pub mod job_text;
 pub mod kernel;
+pub mod lists;
 pub mod natural;
 pub mod random;
 pub mod service;

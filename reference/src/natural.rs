@@ -84,6 +84,28 @@ impl Natural {
         result.trim();
         result
     }
+
+    /// The first 65 to 128 bits as a float, and the power of two that they are
+    /// to be multiplied by: a number itself may lie beyond all floats.
+    fn leading(&self) -> (f64, i32) {
+        match self.limbs.as_slice() {
+            [] => (0.0, 0),
+            [only] => (*only as f64, 0),
+            [rest @ .., low, high] => {
+                let bits = (u128::from(*high) << 64) | u128::from(*low);
+                (bits as f64, 64 * rest.len() as i32)
+            }
+        }
+    }
+
+    /// This number divided by `other`, which is not zero, as a float near the
+    /// exact quotient: for printing, not for comparing.
+    pub fn ratio(&self, other: &Natural) -> f64 {
+        assert!(!other.limbs.is_empty());
+        let (numerator, above) = self.leading();
+        let (denominator, below) = other.leading();
+        numerator / denominator * 2f64.powi(above - below)
+    }
 }
 
 impl Ord for Natural {
@@ -154,6 +176,22 @@ mod tests {
             let sum = Natural::from(a).plus(&Natural::from(b));
             assert_eq!(sum.to_string(), (u128::from(a) + u128::from(b)).to_string());
         }
+    }
+
+    #[test]
+    fn ratios() {
+        let whole = |value: u64| Natural::from(value);
+        assert_eq!(Natural::zero().ratio(&whole(7)), 0.0);
+        assert_eq!(whole(1).ratio(&whole(8)), 0.125);
+        assert_eq!(whole(u64::MAX).ratio(&whole(u64::MAX)), 1.0);
+        // Numbers beyond all floats: 2^1280 × 3/4 over 2^1280, and 3^100 over 3^99.
+        let scale = Natural::power(1 << 20, 64);
+        let quarters = Natural::power(1 << 20, 63).times(3 << 18);
+        assert_eq!(quarters.ratio(&scale), 0.75);
+        assert_eq!(scale.ratio(&quarters), 4.0 / 3.0);
+        let third = Natural::power(3, 100).ratio(&Natural::power(3, 99));
+        assert!((third - 3.0).abs() < 1e-14);
+        assert_eq!(whole(1).ratio(&scale), 0.0);
     }
 
     #[test]

@@ -1,2 +1,3 @@
--- What a search over the slots looks for.
+-- What a search over the slots looks for, and the slots' numbers.
 pub mod Sought
+pub mod Numbers

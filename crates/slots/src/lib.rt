@@ -7,8 +7,9 @@ ghost use Rattle.kernel.specs.Molecule.{unitsOf};
 ghost use Rattle.kernel.specs.Existence.{kernelExists};
 ghost use Rattle.limits.specs.Limits.{stepsInRange};
 ghost use Rattle.machine.specs.Slots.{slotCount, emptySlot, nextPlace, firstFrom, countOf, opening as openingOf};
-ghost use Rattle.machine.specs.Order.{isZero, allZero, filledFine, unshared, slotFine, inOrder as inOrderOf};
+ghost use Rattle.machine.specs.Order.{isZero, allZero, filledFine, inOrder as inOrderOf};
 ghost use Rattle.slots.specs.Sought.{testOf};
+ghost use Rattle.slots.specs.Numbers.{numbersOf, occurrencesOf, slotFineAmong};
 use limits::Outcome;
 use machine::Found;
 use machine::Service;
@@ -152,31 +153,66 @@ fn filled_fine(last: u64, slot: Slot) -> bool
     both(has_kernel(slot.xx, slot.xy, slot.yy, slot.steps), sides)
 }
 
-fn is_unshared(service: Service, slot: Slot) -> bool
-    ensures { λ r. ⌜ r ≡ unshared (service .slots) slot ⌝ }
+// The numbers of the slots. They are handed on where the whole record would be copied for each slot.
+fn numbers_of(service: Service) -> [u64; 8]
+    ensures { λ r. ⌜ r ≡ numbersOf (service .slots) ⌝ }
 {
-    let number = slot.number;
-    tally(service, Sought::Numbered(number)) == 1
+    let a = service.slots[0];
+    let b = service.slots[1];
+    let c = service.slots[2];
+    let d = service.slots[3];
+    let e = service.slots[4];
+    let f = service.slots[5];
+    let g = service.slots[6];
+    let h = service.slots[7];
+    [
+        a.number,
+        b.number,
+        c.number,
+        d.number,
+        e.number,
+        f.number,
+        g.number,
+        h.number,
+    ]
 }
 
-fn slot_fine(service: Service, slot: Slot) -> bool
-    ensures { λ r. ⌜ r ≡ slotFine service slot ⌝ }
+fn occurrences(numbers: [u64; 8], number: u64) -> u32
+    ensures { λ r. ⌜ r ≡ occurrencesOf numbers number slotCount ⌝ }
+{
+    let mut count = 0u32;
+    let mut i = 0usize;
+    while i < 8 {
+        if numbers[i] == number {
+            count += 1;
+        }
+        i += 1;
+    }
+    count
+}
+
+fn slot_fine(last: u64, numbers: [u64; 8], slot: Slot) -> bool
+    ensures { λ r. ⌜ r ≡ slotFineAmong last numbers slot ⌝ }
 {
     if slot.number == 0 {
         return all_zero(slot);
     }
-    both(filled_fine(service.last, slot), is_unshared(service, slot))
+    both(
+        filled_fine(last, slot),
+        occurrences(numbers, slot.number) == 1,
+    )
 }
 
 // The test of refusal 2 for a record: it reads no pixel.
 pub fn in_order(service: Service) -> bool
     ensures { λ r. ⌜ r ≡ inOrderOf service ⌝ }
 {
+    let numbers = numbers_of(service);
     let mut fine = true;
     let mut i = 0usize;
     while i < 8 {
         let slot = service.slots[i];
-        fine = both(fine, slot_fine(service, slot));
+        fine = both(fine, slot_fine(service.last, numbers, slot));
         i += 1;
     }
     both(fine, both(service.filled < 8, service.served < 8))

@@ -6,15 +6,18 @@ use mathlib.Core.Path.{_≡_, sym, _∙_, ap}
 use Prim.Native.Nat.{_≤_, _-_}
 use Rattle.machine.specs.Slots.{slotCount, everySlot}
 use Rattle.machine.specs.Order.{slotFine, inOrder}
-use Rattle.slots.proofs.Laws.{every-none, every-more}
+use Rattle.slots.proofs.Laws.{every-none, every-more, fine-among}
 use Rattle.slots.proofs.in_order.Statement.{statement}
 use Rattle.slots.proofs.in_order.Tie as tie
 
 abbrev Inv-loop : tie.InvT-loop
-Inv-loop service fine₀ i₀ fine i = (i ≤ slotCount) × (fine ≡ everySlot (slotFine service) (service .slots) i)
+Inv-loop service numbers fine₀ i₀ fine i = (i ≤ slotCount) × (fine ≡ everySlot (slotFine service) (service .slots) i)
 
 abbrev μ-loop : tie.MeasureT-loop
-μ-loop service fine₀ i₀ fine i = slotCount - i
+μ-loop service numbers fine₀ i₀ fine i = slotCount - i
+
+numbers-of-requires : tie.Need-numbers-of-requires Inv-loop μ-loop
+numbers-of-requires c κs = search needs
 
 loop-holds : tie.Need-loop-holds Inv-loop μ-loop
 loop-holds c = (omega arith, sym (every-none _ _))
@@ -40,7 +43,8 @@ loop-less c = search needs
 loop-again : tie.Need-loop-again Inv-loop μ-loop
 loop-again c =
     let l = c .before .before .before .before in
-    (omega arith, rw (every-more, c .both .ensures, c .before .slot-fine .ensures, l .loop .inv .1))
+    let numbers = l .before .numbers-of .ensures in
+    (omega arith, rw (every-more, c .both .ensures, c .before .slot-fine .ensures, numbers, fine-among, l .loop .inv .1))
 
 both-requires-2 : tie.Need-both-requires-2 Inv-loop μ-loop
 both-requires-2 c κs = search needs
@@ -61,6 +65,7 @@ in-order-spec =
     (tie.spec
     Inv-loop
     μ-loop
+    numbers-of-requires
     loop-holds
     mul-slot
     element-copy-out-slot

@@ -1,0 +1,225 @@
+"""Compares and times what benchmarks/run.sh has built: the folder with the shared libraries, and the bench program."""
+
+import ctypes
+import platform
+import random
+import statistics
+import subprocess
+import sys
+import time
+
+import numpy
+
+try:
+    import cv2
+except ImportError:
+    cv2 = None
+
+ROUNDS = 31
+SHAPE = (9000, 2001, 7000)
+FORMS = [
+    ("proved", "vector", "proved", "the proved run"),
+    ("indexed", "vector", "indexed", "C, five multiplications, by index, gcc -O3"),
+    ("buffered", "vector", "buffered", "C, five multiplications, through line buffers, gcc -O3"),
+    ("indexed, scalar", "scalar", "indexed", "the same by index, -fno-tree-vectorize"),
+    ("plain", "vector", "plain", "plain C, nine multiplications and a division, gcc -O3"),
+]
+
+
+def shape_argument(shape):
+    return (ctypes.c_int32 * 3)(*shape)
+
+
+def runner(folder, library, name):
+    function = getattr(ctypes.CDLL(f"{folder}/{library}.so"), name)
+    function.argtypes = [ctypes.c_void_p] + [ctypes.c_uint32] * 3 + [ctypes.c_void_p] * 2 + [ctypes.c_size_t]
+
+    def call(shape, steps, first, second, repeats=1):
+        height, width = first.shape
+        code = function(shape_argument(shape), steps, width, height, first.ctypes.data, second.ctypes.data, repeats)
+        if code != 0:
+            sys.exit(f"{name} was refused: {code}")
+
+    return call
+
+
+def definition(image, weights, total):
+    """One step as document 01 has it, in exact integers: the nearest pixel outside, nearest unit, halves up."""
+    padded = numpy.pad(image.astype(object), 1, mode="edge")
+    h, w = image.shape
+    summed = sum(weights[3 * j + i] * padded[j : j + h, i : i + w] for j in range(3) for i in range(3))
+    return ((2 * summed + total) // (2 * total)).astype(numpy.uint16)
+
+
+def weights_of(shape, steps):
+    """Document 01's formulas; none where there is no kernel."""
+    xx, xy, yy = shape
+    m = 4096 * steps
+    f = max(abs(xy), xx + yy - m)
+    if f > min(xx, yy):
+        return None
+    a, b, c, d = f + xy, f - xy, 2 * (xx - f), 2 * (yy - f)
+    return [a, d, b, c, 4 * (m - xx - yy + f), c, b, d, a]
+
+
+def compare(runs):
+    """Every form gives the definition's image, for random shapes, sides and pixels."""
+    pixels = numpy.random.default_rng(1)
+    random.seed(1)
+    tried = 0
+    while tried < 200:
+        steps = random.randint(1, 9)
+        xx, yy = random.randint(0, 4096 * steps), random.randint(0, 4096 * steps)
+        shape = (xx, random.randint(-min(xx, yy), min(xx, yy)), yy)
+        weights = weights_of(shape, steps)
+        if weights is None:
+            continue
+        tried += 1
+        height, width = random.randint(1, 12), random.randint(1, 40)
+        image = pixels.integers(0, 65536, (height, width), dtype=numpy.uint16)
+        wanted = image
+        for _ in range(steps):
+            wanted = definition(wanted, weights, 16384 * steps)
+        for name, run in runs.items():
+            first, second = image.copy(), numpy.zeros_like(image)
+            run(shape, steps, first, second)
+            if not numpy.array_equal(second if steps % 2 else first, wanted):
+                sys.exit(f"{name} differs from the definition: {width} x {height}, {shape}, {steps} steps")
+
+
+def filtered(shape, steps, first, second, repeats=1):
+    """The same run by filter2D, in its 32-bit floats."""
+    weights = weights_of(shape, steps)
+    matrix = (numpy.array(weights, dtype=numpy.float64) / (16384 * steps)).reshape(3, 3).astype(numpy.float32)
+    for _ in range(repeats):
+        for j in range(steps):
+            source, target = (second, first) if j % 2 else (first, second)
+            cv2.filter2D(source, -1, matrix, dst=target, borderType=cv2.BORDER_REPLICATE)
+
+
+def measure(calls):
+    """CPU time of each call in turn, round after round, so that all meet the same state of the machine."""
+    times = {name: [] for name in calls}
+    for _ in range(ROUNDS):
+        for name, call in calls.items():
+            began = time.clock_gettime_ns(time.CLOCK_PROCESS_CPUTIME_ID)
+            call()
+            times[name].append(time.clock_gettime_ns(time.CLOCK_PROCESS_CPUTIME_ID) - began)
+    return times
+
+
+def row(title, nanoseconds, unit, ratio, note=""):
+    print(f"| {title} | {nanoseconds:.3f} | {unit} | {ratio:.2f} | {note} |")
+
+
+def ratio_to(times, name, base):
+    return statistics.median(t / own for t, own in zip(times[name], times[base]))
+
+
+def smoothing(runs, width, height, steps, repeats):
+    """Each form beside the proved run; answers the two ratios that are wanted."""
+    source = numpy.random.default_rng(2).integers(0, 65536, (height, width), dtype=numpy.uint16)
+    other = numpy.zeros_like(source)
+    calls = {name: (lambda run=run: run(SHAPE, steps, source, other, repeats)) for name, run in runs.items()}
+    titles = {name: title for name, _, _, title in FORMS}
+    if cv2 is not None:
+        calls["filter2D"] = lambda: filtered(SHAPE, steps, source, other, repeats)
+        titles["filter2D"] = f"OpenCV {cv2.__version__} filter2D, replicated border"
+    times = measure(calls)
+    work = width * height * steps * repeats
+    for name, title in titles.items():
+        row(f"{width} × {height}: {title}", statistics.median(times[name]) / work, "ns a pixel and step", ratio_to(times, name, "proved"))
+    fastest = min(ratio_to(times, name, "proved") for name in ("indexed", "buffered"))
+    return fastest, ratio_to(times, "filter2D", "proved") if cv2 is not None else None
+
+
+def service(library, proved):
+    """Ticks of full-size jobs beside the bare step, which is a step of a run of 64."""
+    fill, ticks = library.fill, library.ticks
+    fill.argtypes = [ctypes.c_uint32, ctypes.c_void_p] + [ctypes.c_uint32] * 3 + [ctypes.c_void_p]
+    image = numpy.random.default_rng(3).integers(0, 65536, (32, 32), dtype=numpy.uint16)
+    other = numpy.zeros_like(image)
+    shares = {}
+    for jobs in (1, 2, 4, 8):
+        spent, bare = [], []
+        for _ in range(ROUNDS):
+            if fill(jobs, shape_argument(SHAPE), 64, 32, 32, image.ctypes.data) != 0:
+                sys.exit("a submit was refused")
+            began = time.clock_gettime_ns(time.CLOCK_PROCESS_CPUTIME_ID)
+            count = ticks()
+            middle = time.clock_gettime_ns(time.CLOCK_PROCESS_CPUTIME_ID)
+            proved(SHAPE, 64, image, other, jobs)
+            ended = time.clock_gettime_ns(time.CLOCK_PROCESS_CPUTIME_ID)
+            if count != 64 * jobs:
+                sys.exit(f"{count} ticks of {jobs} jobs")
+            spent.append((middle - began) / count)
+            bare.append((ended - middle) / count)
+        ratio = statistics.median(t / b for t, b in zip(spent, bare))
+        shares[jobs] = 1 - 1 / ratio
+        per_second = 1e9 / statistics.median(spent)
+        row(f"tick of a 32 × 32 job, {jobs} held (beside its bare step)", statistics.median(spent), "ns a tick", ratio,
+            f"{per_second:.0f} ticks a second, own share {100 * shares[jobs]:.1f} %")
+    return max(shares.values())
+
+
+def growth(proved):
+    """Times for a pixel and step as pictures and step counts grow, beside the first of each."""
+    for title, cases in (
+        ("growth with pixels", [(64, 64, 8, 64), (256, 256, 8, 4), (1024, 1024, 8, 1)]),
+        ("growth with steps", [(256, 256, 4, 8), (256, 256, 16, 2), (256, 256, 64, 1)]),
+    ):
+        pictures = {case: [numpy.zeros(case[1::-1], dtype=numpy.uint16) for _ in range(2)] for case in cases}
+        calls = {case: (lambda case=case: proved(SHAPE, case[2], *pictures[case], case[3])) for case in cases}
+        times = measure(calls)
+        for case in cases:
+            width, height, steps, repeats = case
+            work = [c[0] * c[1] * c[2] * c[3] for c in (case, cases[0])]
+            ratio = statistics.median(t / work[0] / (b / work[1]) for t, b in zip(times[case], times[cases[0]]))
+            row(f"{title}: {width} × {height}, {steps} steps", statistics.median(times[case]) / work[0], "ns a pixel and step", ratio)
+
+
+def texts(library, program):
+    """The longest text, by a call and by the program, start-up included."""
+    rows = ("\t".join(["7"] * 90) + "\n") * 90
+    text = ("J\t2048\t0\t2048\t64\t90\t90\n" + rows).encode()
+    text = text.replace(b"7\t7", b"10\t7", 16384 - len(text))
+    out = ctypes.create_string_buffer(49240)
+    library.texts.argtypes = [ctypes.c_char_p, ctypes.c_size_t, ctypes.c_void_p, ctypes.c_size_t]
+    times = measure({"text": lambda: library.texts(text, len(text), out, 1)})
+    called = statistics.median(times["text"])
+    walls = []
+    for _ in range(ROUNDS):
+        began = time.perf_counter_ns()
+        answer = subprocess.run([program], input=text, capture_output=True, check=True).stdout
+        walls.append(time.perf_counter_ns() - began)
+    if not answer.startswith(b"K\t"):
+        sys.exit("the longest text was refused")
+    row(f"text of {len(text)} bytes, 64 steps: the call", called / 1e6, "ms", 1)
+    row("the same by the program, start-up included, wall clock", statistics.median(walls) / 1e6, "ms", statistics.median(walls) / called)
+    return statistics.median(walls) / 1e6
+
+
+def main():
+    if cv2 is not None:
+        cv2.setNumThreads(1)
+    folder, program = sys.argv[1:]
+    runs = {name: runner(folder, library, function) for name, library, function, _ in FORMS}
+    library = ctypes.CDLL(f"{folder}/vector.so")
+    compare(runs)
+    print(f"One run on {platform.machine()}, one thread, CPU time, medians of {ROUNDS} rounds; every form in turn in each round,")
+    print("so that buffers are warm, and none is cleared between. A ratio is to the first row of its group.\n")
+    print("| what | time | unit | ratio | |\n|---|---|---|---|---|")
+    large = smoothing(runs, 1024, 1024, 4, 1)
+    smoothing(runs, 32, 32, 16, 32)
+    smoothing(runs, 1000, 3, 16, 8)
+    share = service(library, runs["proved"])
+    slow = texts(library, program)
+    growth(runs["proved"])
+    print(f"\nthe faster C at gcc -O3 takes {large[0]:.2f} times as long as the proved step (wanted: at least 1)")
+    if large[1] is not None:
+        print(f"filter2D takes {large[1]:.2f} times as long as the proved step (wanted: at least 2)")
+    print(f"the service's own share of a tick is at most {100 * share:.1f} % (wanted: under 10)")
+    print(f"a full-size text takes {slow:.1f} ms, start-up included (wanted: under 20)")
+
+
+main()

@@ -1,0 +1,2 @@
+-- What the exported call on texts returns.
+pub mod Texts

@@ -1,0 +1,2 @@
+-- What the calls leave behind.
+pub mod Pictures

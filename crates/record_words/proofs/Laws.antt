@@ -1,0 +1,141 @@
+-- Words within their fields, signed numbers and their two's complement, and slots read and written one by one. Assumes nothing.
+use mathlib.Core.Path.{_≡_, refl, sym, _∙_, ap}
+use mathlib.Core.Bool.{Bool, true, false, _&&_, true≢false}
+use mathlib.Core.List.{List}
+use Prim.Native.Nat.{ℕ, zero, suc, _+_, _-_, _*_, _%_, _^_, _<_, _≤_}
+use native.Mathlib.Nat.{mul-add-mod-self-left, mod-eq-of-lt}
+use native.Mathlib.Numerals.{add-one}
+use native.Mathlib.Omega.{arith}
+use borrow.Author.Tests.{eqb-true, ltb-true, le-ltb, ne-eqb}
+use borrow.Author.Count.{below-more}
+use lib.Dec.{eqb, ltb}
+use lib.ListN.{length, getD, set, replicate, length-set}
+use lib.IntN.{ℤ, pos, negsuc, natAbs, _-ℤ_}
+use lib.Signed.{mag, ltZ}
+use mir.Syntax.{w32, w64}
+use mir.Val.{Fits, SFits, toZ, ofZ}
+use mir.ValLaws.{toZ-pos, toZ-ofZ}
+use Rattle.limits.proofs.Laws.{both-true}
+use Rattle.machine.specs.declared.Slot.{Slot}
+use Rattle.machine.specs.declared.Service.{Service}
+use Rattle.machine.proofs.Parts.{length-put}
+use Rattle.machine.specs.Slots.{slotCount, slotAt, emptySlot}
+use Rattle.record_words.specs.Words.{wordCount, slotWords, wordPlace, wordAt, wordFits, wordsFit, fieldsFit, slotOf, slotsOf, wordsOfSlot, withSlot, withSlots}
+
+-- ---- words within their fields
+pub fit-none : (words : List ℕ) → wordsFit words 0 ≡ true
+unfolding wordsFit
+fit-none words = refl
+
+pub fit-more : (words : List ℕ) (n : ℕ) → wordsFit words (n + 1) ≡ (wordsFit words n && wordFits n (getD words n 0))
+unfolding wordsFit
+fit-more words n = rw (add-one n)
+
+fit-at : (words : List ℕ) (n : ℕ) → wordsFit words n ≡ true → (k : ℕ) → k < n → wordFits k (getD words k 0) ≡ true
+unfolding wordsFit
+fit-at words zero e k h = absurd (omega arith)
+fit-at words (suc n) e k h =
+    let w = both-true (wordsFit words n) (wordFits n (getD words n 0)) e in
+    below-more (λ (k : ℕ). wordFits k (getD words k 0) ≡ true) n (fit-at words n (w .0)) (w .1) k (omega arith)
+
+module _ (words : List ℕ) (fit : fieldsFit words ≡ true) where
+  pub fit-length : length words ≡ wordCount
+  unfolding fieldsFit
+  fit-length = eqb-true (length words) wordCount (both-true (eqb (length words) wordCount) (wordsFit words wordCount) fit .0)
+
+  pub fit-narrow : (place field : ℕ) → 1 ≤ field → field < slotWords → wordPlace place field < wordCount → wordAt words place field < 2 ^ 32
+  unfolding fieldsFit
+  fit-narrow place field l h p =
+      let w = fit-at words wordCount (both-true (eqb (length words) wordCount) (wordsFit words wordCount) fit .1) (wordPlace place field) p in
+      let m : wordPlace place field % slotWords ≡ field = mul-add-mod-self-left slotWords place field ∙ mod-eq-of-lt h in
+      let n : eqb (wordPlace place field % slotWords) 0 ≡ false =
+      ne-eqb (wordPlace place field % slotWords) 0 (λ (e : wordPlace place field % slotWords ≡ 0). let z : field ≡ 0 = sym m ∙ e in omega arith) in
+      ltb-true (wordAt words place field) (2 ^ 32) (rw n at w)
+
+-- ---- signed numbers
+minus-one : (m : ℕ) → negsuc 0 -ℤ pos m ≡ negsuc m
+minus-one zero = refl
+minus-one (suc m) = ap negsuc (omega arith)
+
+-- the upper half of 32 bits, as the code counts it down from −1
+pub signed-high : (n : ℕ) → 2147483648 ≤ n → n < 2 ^ 32 → negsuc 0 -ℤ toZ w32 (4294967295 - n) ≡ toZ w32 n
+signed-high n l h =
+    let low : 4294967295 - n < 2 ^ 31 = omega arith in
+    let same : 4294967295 - n ≡ 2 ^ 32 - suc n = omega arith in
+    ap (λ z. negsuc 0 -ℤ z) (toZ-pos w32 (4294967295 - n) low)
+    ∙ minus-one (4294967295 - n)
+    ∙ ap negsuc same
+    ∙ rw (le-ltb n (2 ^ 31) l)
+
+-- how far a negative number lies below −1
+down : (v : ℤ) → ltZ v (pos 0) ≡ true → negsuc 0 -ℤ v ≡ pos (mag v)
+down (pos n) h = let g = ltb-true n 0 h in absurd (omega arith)
+down (negsuc n) h = rw (le-ltb (suc n) 1 (omega arith)) (ap pos (omega arith))
+
+pub high-bits : (v : ℤ) → SFits w32 v → ltZ v (pos 0) ≡ true → 4294967295 - mag v ≡ ofZ w32 v
+high-bits (pos n) f h = let g = ltb-true n 0 h in absurd (omega arith)
+high-bits (negsuc n) f h = omega arith
+
+pub low-bits : (v : ℤ) → ltZ v (pos 0) ≡ false → natAbs v ≡ ofZ w32 v
+low-bits (pos n) h = refl
+low-bits (negsuc n) h = absurd (true≢false h)
+
+module _ (v : ℤ) (h : SFits w32 v) where
+  pub passes : toZ w32 (ofZ w32 v) ≡ v
+  passes = toZ-ofZ w32 v h
+
+  pub mag-signed : SFits w32 (pos (mag v))
+  mag-signed = record { sfits = h .sfits }
+
+  pub mag-le : mag v ≤ 4294967295
+  mag-le = let g : mag v < 2 ^ 31 = h .sfits in omega arith
+
+  pub mag-fits : Fits w64 (mag v)
+  mag-fits = let g = mag-le in record { fits = omega arith }
+
+  pub size-fits : Fits w64 (natAbs v)
+  size-fits = go v (h .sfits)
+    where
+      go : (v : ℤ) → mag v < 2 ^ 31 → Fits w64 (natAbs v)
+      go (pos n) g = record { fits = omega arith }
+      go (negsuc n) g = record { fits = omega arith }
+
+  module _ (n : ltZ v (pos 0) ≡ true) where
+    pub counted-down : negsuc 0 -ℤ toZ w32 (ofZ w32 v) ≡ pos (mag v)
+    counted-down = ap (λ z. negsuc 0 -ℤ z) passes ∙ down v n
+
+    pub read-back : toZ w32 (ofZ w32 (negsuc 0 -ℤ toZ w32 (ofZ w32 v))) ≡ pos (mag v)
+    read-back = ap (λ z. toZ w32 (ofZ w32 z)) counted-down ∙ toZ-ofZ w32 (pos (mag v)) mag-signed
+
+-- ---- the slots one by one
+unfoldable pub slotsTo : List ℕ → ℕ → List Slot
+slotsTo words zero = replicate slotCount emptySlot
+slotsTo words (suc n) = set (slotsTo words n) n (slotOf words n)
+
+pub slots-none : (words : List ℕ) → slotsTo words 0 ≡ replicate slotCount emptySlot
+unfolding slotsTo
+slots-none words = refl
+
+pub slots-more : (words : List ℕ) (n : ℕ) → slotsTo words (n + 1) ≡ set (slotsTo words n) n (slotOf words n)
+unfolding slotsTo
+slots-more words n = rw (add-one n)
+
+pub slots-all : (words : List ℕ) → slotsTo words slotCount ≡ slotsOf words
+unfolding slotsTo
+slots-all words = refl
+
+-- ---- the slots written one by one
+pub slots-written-none : (r : Service) (words : List ℕ) → withSlots r 0 words ≡ words
+unfolding withSlots
+slots-written-none r words = refl
+
+pub slots-written-more : (r : Service) (n : ℕ) (words : List ℕ) → withSlots r (n + 1) words ≡ withSlot n (slotAt r n) (withSlots r n words)
+unfolding withSlots
+slots-written-more r n words = rw (add-one n)
+
+pub slots-written-length : (r : Service) (n : ℕ) (words : List ℕ) → slotWords * n ≤ length words → length (withSlots r n words) ≡ length words
+unfolding withSlots
+slots-written-length r zero words h = refl
+slots-written-length r (suc n) words h =
+    let before : length (withSlots r n words) ≡ length words = slots-written-length r n words (omega arith) in
+    length-put (slotWords * n) (wordsOfSlot (slotAt r n)) (withSlots r n words) (omega (arith, before)) ∙ before

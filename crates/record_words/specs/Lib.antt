@@ -1,0 +1,2 @@
+-- The service record as words.
+pub mod Words

@@ -1,0 +1,187 @@
+// The service record as 67 words of 64 bits, for callers that have numbers and slices alone (specs/Words.antt). An inner crate:
+// reading and writing ask that the words hold a record and that there are 67 of them.
+ghost use mathlib.Core.Path.{_≡_};
+ghost use mathlib.Core.Bool.{_&&_, true};
+ghost use Prim.Native.Nat.{_+_, _<_, _≤_};
+ghost use lib.ListN.{length};
+ghost use mir.Syntax.{w32};
+ghost use mir.Val.{toZ, ofZ};
+ghost use Rattle.machine.specs.Slots.{slotCount};
+ghost use Rattle.machine.specs.Store.{put};
+ghost use Rattle.record_words.specs.Words.{wordCount, slotWords, wordPlace, wordAt, wordFits, fieldsFit, slotOf, serviceOf, wordsOfSlot, withSlot, withSlots, withService};
+use machine::Service;
+use machine::Slot;
+
+fn both(a: bool, b: bool) -> bool
+    ensures { λ r. ⌜ r ≡ (a && b) ⌝ }
+{
+    if a { b } else { false }
+}
+
+// Whether a word is within its field: 64 bits at the multiples of 8, else 32.
+fn word_fits(i: usize, word: u64) -> bool
+    ensures { λ r. ⌜ r ≡ wordFits i word ⌝ }
+{
+    if i % 8 == 0 { true } else { word < 4294967296 }
+}
+
+// Whether the words hold a record, in order or not.
+pub fn fields_fit(words: &[u64]) -> bool
+    ensures { λ r. ⌜ r ≡ fieldsFit (now (words .entry)) ⌝ }
+{
+    if words.len() != 67 {
+        return false;
+    }
+    let mut fine = true;
+    let mut i = 0usize;
+    while i < 67 {
+        fine = both(fine, word_fits(i, words[i]));
+        i += 1;
+    }
+    fine
+}
+
+// A number of 32 bits as its two's complement.
+fn signed_of(word: u32) -> i32
+    ensures { λ r. ⌜ r ≡ toZ w32 word ⌝ }
+{
+    if word < 2147483648 {
+        word as i32
+    } else {
+        -1 - ((4294967295 - word) as i32)
+    }
+}
+
+// The two's complement of a number, in 32 bits.
+fn word_of(v: i32) -> u64
+    ensures { λ r. ⌜ r ≡ ofZ w32 v ⌝ }
+{
+    if v < 0 {
+        4294967295 - ((-1 - v) as u64)
+    } else {
+        v as u64
+    }
+}
+
+// A job number, which has 64 bits.
+fn number_at(words: &[u64], place: usize) -> u64
+    requires { ⌜ (fieldsFit (now words) ≡ true) × (place ≤ slotCount) ⌝ }
+    ensures { λ r. ⌜ r ≡ wordAt (now (words .entry)) place 0 ⌝ }
+{
+    words[8 * place]
+}
+
+// A field of 32 bits.
+fn field_at(words: &[u64], place: usize, field: usize) -> u32
+    requires { ⌜ (fieldsFit (now words) ≡ true) × (1 ≤ field) × (field < slotWords) × (wordPlace place field < wordCount) ⌝ }
+    ensures { λ r. ⌜ r ≡ wordAt (now (words .entry)) place field ⌝ }
+{
+    words[8 * place + field] as u32
+}
+
+fn slot_of(words: &[u64], place: usize) -> Slot
+    requires { ⌜ (fieldsFit (now words) ≡ true) × (place < slotCount) ⌝ }
+    ensures { λ r. ⌜ r ≡ slotOf (now (words .entry)) place ⌝ }
+{
+    Slot {
+        number: number_at(words, place),
+        xx: signed_of(field_at(words, place, 1)),
+        xy: signed_of(field_at(words, place, 2)),
+        yy: signed_of(field_at(words, place, 3)),
+        steps: field_at(words, place, 4),
+        left: field_at(words, place, 5),
+        width: field_at(words, place, 6),
+        height: field_at(words, place, 7),
+    }
+}
+
+// The record that the words hold.
+pub fn service_of(words: &[u64]) -> Service
+    requires { ⌜ fieldsFit (now words) ≡ true ⌝ }
+    ensures { λ r. ⌜ r ≡ serviceOf (now (words .entry)) ⌝ }
+{
+    let empty = slots::empty_slot();
+    let mut all = [empty; 8];
+    let mut i = 0usize;
+    while i < 8 {
+        all[i] = slot_of(words, i);
+        i += 1;
+    }
+    Service {
+        slots: all,
+        last: number_at(words, 8),
+        filled: field_at(words, 8, 1),
+        served: field_at(words, 8, 2),
+    }
+}
+
+fn wide(n: u32) -> u64
+    ensures { λ r. ⌜ r ≡ n ⌝ }
+{
+    n as u64
+}
+
+// A slot's eight words.
+fn slot_words(slot: Slot) -> [u64; 8]
+    ensures { λ r. ⌜ r ≡ wordsOfSlot slot ⌝ }
+{
+    [
+        slot.number,
+        word_of(slot.xx),
+        word_of(slot.xy),
+        word_of(slot.yy),
+        wide(slot.steps),
+        wide(slot.left),
+        wide(slot.width),
+        wide(slot.height),
+    ]
+}
+
+fn copy(source: &[u64], target: &mut [u64])
+    requires { ⌜ length (now source) ≡ length (now target) ⌝ }
+    ensures { λ _. ⌜ now (target .exit) ≡ now (source .entry) ⌝ }
+{
+    let mut i = 0usize;
+    while i < source.len() {
+        target[i] = source[i];
+        i += 1;
+    }
+}
+
+fn put_words(words: &mut [u64], start: usize, numbers: &[u64])
+    requires { ⌜ start + length (now numbers) ≤ length (now words) ⌝ }
+    ensures { λ _. ⌜ now (words .exit) ≡ put start (now (numbers .entry)) (now (words .entry)) ⌝ }
+{
+    let end = start + numbers.len();
+    copy(numbers, &mut words[start..end]);
+}
+
+fn write_slot(words: &mut [u64], place: usize, slot: Slot)
+    requires { ⌜ (length (now words) ≡ wordCount) × (place < slotCount) ⌝ }
+    ensures { λ _. ⌜ now (words .exit) ≡ withSlot place slot (now (words .entry)) ⌝ }
+{
+    let numbers = slot_words(slot);
+    put_words(words, 8 * place, &numbers);
+}
+
+fn write_slots(words: &mut [u64], service: Service)
+    requires { ⌜ length (now words) ≡ wordCount ⌝ }
+    ensures { λ _. ⌜ now (words .exit) ≡ withSlots service slotCount (now (words .entry)) ⌝ }
+{
+    let mut i = 0usize;
+    while i < 8 {
+        let slot = service.slots[i];
+        write_slot(words, i, slot);
+        i += 1;
+    }
+}
+
+// The words of a record: each of them is written.
+pub fn write_service(words: &mut [u64], service: Service)
+    requires { ⌜ length (now words) ≡ wordCount ⌝ }
+    ensures { λ _. ⌜ now (words .exit) ≡ withService service (now (words .entry)) ⌝ }
+{
+    write_slots(words, service);
+    let rest = [service.last, wide(service.filled), wide(service.served)];
+    put_words(words, 64, &rest);
+}

@@ -1,0 +1,2 @@
+-- What a call through words leaves behind.
+pub mod Exported

@@ -1,0 +1,408 @@
+//! Demand 3 as a check of a running service: random lists of calls from one
+//! opening on, and every sentence of the demand, put together from the calls
+//! and their answers alone.
+
+use crate::error_code::ErrorCode;
+use crate::generate::{random_pixels, random_shape};
+use crate::random::Random;
+use crate::service::{self, Record, STORE_PIXELS};
+use crate::shape::{covariance, shape_kernel, Shape};
+use crate::smooth::{exact_run, rounded_run, within_half_per_step};
+use std::collections::BTreeMap;
+
+/// A service as its calls. Two are equal where record and store are.
+pub trait Calls: Clone + PartialEq {
+    /// An opening over this store.
+    fn open(store: Vec<u16>) -> Self;
+    fn submit(
+        &mut self,
+        shape: Shape,
+        steps: u32,
+        width: u32,
+        height: u32,
+        picture: &[u16],
+    ) -> Result<u64, ErrorCode>;
+    fn tick(&mut self) -> Result<Option<u64>, ErrorCode>;
+    fn collect(&mut self, number: u64, picture: &mut [u16]) -> Result<u64, ErrorCode>;
+    fn withdraw(&mut self, number: u64) -> Result<u64, ErrorCode>;
+    fn free(&self) -> Result<u32, ErrorCode>;
+    fn store(&self) -> &[u16];
+}
+
+/// This program's own service.
+#[derive(Clone, PartialEq)]
+pub struct Model {
+    pub record: Record,
+    pub store: Vec<u16>,
+}
+
+impl Calls for Model {
+    fn open(store: Vec<u16>) -> Model {
+        Model {
+            record: service::opening(),
+            store,
+        }
+    }
+
+    fn submit(
+        &mut self,
+        shape: Shape,
+        steps: u32,
+        width: u32,
+        height: u32,
+        picture: &[u16],
+    ) -> Result<u64, ErrorCode> {
+        let Model { record, store } = self;
+        service::submit(record, store, shape, steps, width, height, picture)
+    }
+
+    fn tick(&mut self) -> Result<Option<u64>, ErrorCode> {
+        service::tick(&mut self.record, &mut self.store)
+    }
+
+    fn collect(&mut self, number: u64, picture: &mut [u16]) -> Result<u64, ErrorCode> {
+        service::collect(&mut self.record, &self.store, number, picture)
+    }
+
+    fn withdraw(&mut self, number: u64) -> Result<u64, ErrorCode> {
+        service::withdraw(&mut self.record, number)
+    }
+
+    fn free(&self) -> Result<u32, ErrorCode> {
+        service::free_count(&self.record)
+    }
+
+    fn store(&self) -> &[u16] {
+        &self.store
+    }
+}
+
+/// A job as the calls and their answers give it.
+#[derive(Clone)]
+struct Job {
+    shape: Shape,
+    steps: u32,
+    width: u32,
+    height: u32,
+    picture: Vec<u16>,
+    ticks: u32,
+    held: bool,
+    withdrawn: bool,
+    /// The earliest number of ticks by which the wait promises its end.
+    deadline: u64,
+}
+
+impl Job {
+    fn left(&self) -> u32 {
+        self.steps - self.ticks
+    }
+
+    fn submitted_to(&self, service: &mut impl Calls) -> Result<u64, ErrorCode> {
+        service.submit(
+            self.shape,
+            self.steps,
+            self.width,
+            self.height,
+            &self.picture,
+        )
+    }
+
+    /// The refusal from 3 to 11 that its submit meets first, put together from
+    /// the sentences one by one.
+    fn refusal(&self) -> Option<ErrorCode> {
+        let area = u64::from(self.width) * u64::from(self.height);
+        let shape_refusal = covariance(self.shape).err();
+        let side_fits = |side| (1..=1024).contains(&side);
+        let tests = [
+            (shape_refusal == Some(3), 3),
+            (shape_refusal == Some(4), 4),
+            (!(1..=64).contains(&self.steps), 5),
+            (!(side_fits(self.width) && side_fits(self.height)), 6),
+            (self.picture.len() as u64 != area, 9),
+            (area > 1024, 10),
+            (shape_kernel(self.shape, self.steps).is_err(), 11),
+        ];
+        tests.iter().find(|test| test.0).map(|test| test.1)
+    }
+
+    /// What it was handed over is what it gets alone, within k/2 of the exact
+    /// run, and what a service opened for it only hands over.
+    fn check_handed_over<S: Calls>(&self, picture: &[u16], random: &mut Random) {
+        let kernel = shape_kernel(self.shape, self.steps).unwrap();
+        let alone = rounded_run(&kernel, &self.picture, self.width, self.height, self.steps);
+        assert_eq!(picture, alone, "the lone run");
+        let exact = exact_run(&kernel, &self.picture, self.width, self.height, self.steps);
+        assert!(within_half_per_step(
+            picture, &exact, kernel.sum, self.steps
+        ));
+        let mut service = S::open(random_pixels(random, STORE_PIXELS));
+        assert_eq!(self.submitted_to(&mut service), Ok(1));
+        for _ in 0..self.steps {
+            assert_eq!(service.tick(), Ok(Some(1)));
+        }
+        assert_eq!(service.tick(), Ok(None));
+        let mut lone = vec![0; picture.len()];
+        assert_eq!(service.collect(1, &mut lone), Ok(1));
+        assert_eq!(lone, picture, "a service opened for it only");
+    }
+}
+
+/// How often each outcome came up, so that a list of nothing but refusals shows.
+#[derive(Debug, Default)]
+pub struct Seen {
+    pub accepted: u32,
+    pub refused: BTreeMap<ErrorCode, u32>,
+    pub ticks: u32,
+    pub idle: u32,
+    pub collected: u32,
+    pub withdrawn: u32,
+    pub most_held: usize,
+}
+
+impl Seen {
+    /// Whether each kind of outcome came up often, with the service full.
+    pub fn is_enough(&self) -> bool {
+        self.most_held == 8
+            && self.accepted > 1000
+            && self.ticks > 5000
+            && self.idle > 1000
+            && self.collected > 500
+            && self.withdrawn > 300
+            && (3..=12).all(|refusal| self.refused.get(&refusal).is_some_and(|n| *n > 5))
+    }
+
+    fn refuse(&mut self, refusal: ErrorCode) {
+        *self.refused.entry(refusal).or_default() += 1;
+    }
+}
+
+/// A shape and a step count, mostly of a kernel and few steps, so that jobs are
+/// finished within a list.
+pub fn random_work(random: &mut Random, most_steps: u32) -> (Shape, u32) {
+    for _ in 0..20 {
+        let (shape, steps) = random_shape(random);
+        if steps <= most_steps && shape_kernel(shape, steps).is_ok() {
+            return (shape, steps);
+        }
+    }
+    random_shape(random)
+}
+
+/// Sides of a submitted picture, wrong ones and the largest included.
+pub fn random_sides(random: &mut Random) -> (u32, u32) {
+    match random.below(28) {
+        0 => (0, random.below(4) as u32),
+        1 => (random.below(4) as u32, 0),
+        2 => (1025, 1),
+        3 => (u32::MAX, u32::MAX),
+        4 => (64, 17),
+        5 => (32, 32),
+        6 => (1024, 1),
+        7 => (1, 1024),
+        8 => (1, 1),
+        9 => (1, random.between(1, 40) as u32),
+        10 => (random.between(1, 40) as u32, 1),
+        _ => (random.between(1, 10) as u32, random.between(1, 10) as u32),
+    }
+}
+
+/// Mostly the length, sometimes one off; never more than a test can lend.
+pub fn random_length(random: &mut Random, area: u64) -> usize {
+    let area = area.min(5000);
+    let length = match random.below(16) {
+        0 => area + 1,
+        1 => area.saturating_sub(1),
+        _ => area,
+    };
+    length as usize
+}
+
+fn random_job(random: &mut Random) -> Job {
+    let (shape, steps) = random_work(random, 12);
+    let (width, height) = random_sides(random);
+    let length = random_length(random, u64::from(width) * u64::from(height));
+    Job {
+        shape,
+        steps,
+        width,
+        height,
+        picture: random_pixels(random, length),
+        ticks: 0,
+        held: true,
+        withdrawn: false,
+        deadline: u64::MAX,
+    }
+}
+
+/// A list in progress.
+struct List<S> {
+    service: S,
+    /// By the number that the submit answered.
+    jobs: BTreeMap<u64, Job>,
+    ticks: u64,
+}
+
+impl<S: Calls> List<S> {
+    fn held(&self) -> Vec<u64> {
+        let held = self.jobs.iter().filter(|(_, job)| job.held);
+        held.map(|(number, _)| *number).collect()
+    }
+
+    fn some_number(&self, random: &mut Random) -> u64 {
+        let held = self.held();
+        match random.below(8) {
+            0 => random.below(4),
+            1 => random.bits(),
+            2 => self.jobs.len() as u64 + random.below(2),
+            _ if held.is_empty() => 0,
+            _ => random.pick(&held),
+        }
+    }
+
+    fn submit(&mut self, random: &mut Random, seen: &mut Seen) {
+        let before = self.service.clone();
+        let job = random_job(random);
+        let answer = job.submitted_to(&mut self.service);
+        let expected = match job.refusal() {
+            Some(refusal) => Err(refusal),
+            None if self.held().len() == 8 => Err(12),
+            None => Ok(self.jobs.len() as u64 + 1),
+        };
+        assert_eq!(answer, expected, "submit");
+        match answer {
+            Ok(number) => {
+                seen.accepted += 1;
+                assert!(
+                    self.jobs.insert(number, job).is_none(),
+                    "a number given twice"
+                );
+            }
+            Err(refusal) => {
+                seen.refuse(refusal);
+                assert!(self.service == before);
+            }
+        }
+    }
+
+    fn tick(&mut self, seen: &mut Seen) {
+        let before = self.service.clone();
+        let held = self.held();
+        let waiting = held.iter().any(|number| self.jobs[number].left() > 0);
+        let answer = self.service.tick().expect("a record in order");
+        self.ticks += 1;
+        assert_eq!(
+            answer.is_some(),
+            waiting,
+            "idle exactly where no steps are left"
+        );
+        match answer {
+            Some(number) => {
+                seen.ticks += 1;
+                let job = self.jobs.get_mut(&number).expect("a job");
+                assert!(job.held && job.left() > 0);
+                job.ticks += 1;
+                let pixels = self.service.store().iter().zip(before.store());
+                let changed = pixels.filter(|(a, b)| a != b).count();
+                assert!(changed <= job.picture.len());
+            }
+            None => {
+                seen.idle += 1;
+                assert!(self.service == before);
+            }
+        }
+    }
+
+    fn collect(&mut self, random: &mut Random, seen: &mut Seen) {
+        let before = self.service.clone();
+        let number = self.some_number(random);
+        let known = self.jobs.get(&number).filter(|job| job.held).cloned();
+        let area = known.as_ref().map_or(5, |job| job.picture.len());
+        let lent = random_length(random, area as u64);
+        let lent = random_pixels(random, lent);
+        let mut picture = lent.clone();
+        let answer = self.service.collect(number, &mut picture);
+        let expected = match &known {
+            None => Err(7),
+            Some(job) if job.left() > 0 => Err(8),
+            Some(_) if lent.len() != area => Err(9),
+            Some(_) => Ok(number),
+        };
+        assert_eq!(answer, expected, "collect");
+        assert!(self.service.store() == before.store());
+        match (answer, known) {
+            (Ok(_), Some(job)) => {
+                seen.collected += 1;
+                job.check_handed_over::<S>(&picture, random);
+                self.jobs.get_mut(&number).expect("known").held = false;
+            }
+            (Ok(_), None) => unreachable!("7 was expected"),
+            (Err(refusal), _) => {
+                seen.refuse(refusal);
+                assert!(self.service == before);
+                assert_eq!(picture, lent);
+            }
+        }
+    }
+
+    fn withdraw(&mut self, random: &mut Random, seen: &mut Seen) {
+        let before = self.service.clone();
+        let number = self.some_number(random);
+        let known = self.jobs.get_mut(&number).filter(|job| job.held);
+        let answer = self.service.withdraw(number);
+        assert!(self.service.store() == before.store());
+        match known {
+            Some(job) => {
+                assert_eq!(answer, Ok(number), "withdraw");
+                seen.withdrawn += 1;
+                job.held = false;
+                job.withdrawn = true;
+            }
+            None => {
+                assert_eq!(answer, Err(7), "withdraw");
+                assert!(self.service == before);
+            }
+        }
+    }
+
+    /// The free count, and the wait from every place on.
+    fn check_place(&mut self, seen: &mut Seen) {
+        let held = self.held().len();
+        seen.most_held = seen.most_held.max(held);
+        assert_eq!(self.service.free(), Ok(16 - 2 * held as u32), "free");
+        for job in self.jobs.values_mut() {
+            if job.held && job.left() > 0 {
+                job.deadline = job.deadline.min(self.ticks + 8 * u64::from(job.left()));
+            }
+            assert!(
+                job.left() == 0 || job.withdrawn || self.ticks < job.deadline,
+                "the wait"
+            );
+        }
+    }
+}
+
+/// Runs one random list of calls from an opening on and checks every sentence.
+pub fn check_list<S: Calls>(random: &mut Random, calls: usize, seen: &mut Seen) {
+    let mut list = List {
+        service: S::open(random_pixels(random, STORE_PIXELS)),
+        jobs: BTreeMap::new(),
+        ticks: 0,
+    };
+    // Lists differ in how eagerly they submit and tick.
+    let submits = random.between(1, 12) as u64;
+    let served = random.between(1, 40) as u64;
+    list.check_place(seen);
+    for _ in 0..calls {
+        let choice = random.below(submits + served + 6);
+        if choice < submits {
+            list.submit(random, seen);
+        } else if choice < submits + served {
+            list.tick(seen);
+        } else if choice < submits + served + 4 {
+            list.collect(random, seen);
+        } else {
+            list.withdraw(random, seen);
+        }
+        list.check_place(seen);
+    }
+}

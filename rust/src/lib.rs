@@ -1,0 +1,28 @@
+//! The proved picture smoother. Each call is one exported function of the static library `capi`; this crate adds types,
+//! and nothing that is computed.
+//!
+//! A call answers, or refuses with an [`Error`] and then has changed nothing.
+//!
+//! ```
+//! use vokhsaot::{kernel, run, shown, Shape};
+//!
+//! let shape = Shape::Matrix { xx: 2048, xy: 0, yy: 2048 };
+//! assert_eq!(kernel(shape, 1).unwrap().weights[1], 4096);
+//! let mut first = [0, 0, 0, 0, 1600, 0, 0, 0, 0];
+//! let mut second = [0; 9];
+//! run(shape, 1, 3, 3, &mut first, &mut second).unwrap();
+//! assert_eq!(shown(1, &first, &second), [0, 400, 0, 400, 0, 400, 0, 400, 0]);
+//! ```
+
+mod error;
+mod exported;
+mod picture;
+mod service;
+mod shape;
+mod text;
+
+pub use error::Error;
+pub use picture::{difference, directional, pixel, run, shown, Difference};
+pub use service::{Service, BUFFER_PIXELS, SLOTS, STORE_PIXELS, WORDS};
+pub use shape::{covariance, kernel, Covariance, Direction, Kernel, Shape};
+pub use text::{answer_text, MOST_ANSWER_BYTES};

@@ -1,0 +1,55 @@
+#!/usr/bin/env bash
+# The bench program on standard input, against the independent program: document 01's listing byte for byte, every refusal,
+# the longest text and one byte more, in pieces, and generated texts, damaged ones included. Usage: bench.sh PROGRAM [COUNT]
+set -eu
+cd "$(dirname "$0")/.."
+program=$PWD/$1
+count=${2:-1000}
+work=$(mktemp -d)
+trap 'rm -rf "$work"' EXIT
+cargo build --quiet --release --offline --manifest-path reference/Cargo.toml
+built=${CARGO_TARGET_DIR:-$PWD/reference/target}/release
+
+# expect NAME: the program's answer to $work/text is $work/expected, and it says nothing else
+expect() {
+    "$program" <"$work/text" >"$work/out" 2>"$work/err" || { echo "bench: $1: exit status $?"; exit 1; }
+    cmp "$work/expected" "$work/out" || { echo "bench: $1"; exit 1; }
+    [ ! -s "$work/err" ] || { echo "bench: $1: something on standard error"; exit 1; }
+}
+
+cp crates/bench/stdin "$work/text"
+printf 'K\t4\t0\t1\t0\t1\t0\t1\t0\t1\t0\nP\t3\t3\n0\t400\t0\n400\t0\t400\n0\t400\t0\n' >"$work/expected"
+expect "the listing"
+
+refusals=0
+while IFS='|' read -r number text; do
+    printf '%b' "$text" >"$work/text"
+    printf 'R\t%s\n' "$number" >"$work/expected"
+    expect "refusal $number of $text"
+    refusals=$((refusals + 1))
+done <<'REFUSALS'
+1|
+1|J\t0\t0\t0\t1\t1\t1\n0
+5|J\t0\t0\t0\t0\t0\t0\n
+5|J\t-1\t0\t0\t65\t1\t1\n0\n
+6|J\t-1\t0\t0\t1\t0\t0\n
+6|J\t0\t0\t0\t1\t0\t4294967295\n
+11|J\t4097\t0\t4096\t1\t1\t1\n0\n
+11|J\t1000\t1001\t1000\t1\t1\t1\n0\n
+REFUSALS
+
+# Generated texts, the longest ones among them; every tenth comes through a pipe in pieces.
+"$built/texts" "$work/texts" 1 "$count"
+n=0
+for text in "$work"/texts/*.text; do
+    "$built/job" <"$text" >"$work/expected"
+    cp "$text" "$work/text"
+    expect "$text"
+    n=$((n + 1))
+    if [ $((n % 10)) -eq 0 ]; then
+        (head -c 5 "$text"; sleep 0.01; tail -c +6 "$text") | "$program" >"$work/out"
+        cmp "$work/expected" "$work/out" || { echo "bench: $text in pieces"; exit 1; }
+    fi
+done
+echo "bench: the listing, $refusals refusals and $n texts"
+[ "$n" -ge "$count" ]
