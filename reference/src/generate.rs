@@ -463,6 +463,13 @@ pub fn random_shape(random: &mut Random) -> (Shape, u32) {
     }
 }
 
+/// Document 01's case f: a shape that leans along (1, 1).
+pub const LEANING: Covariance = Covariance {
+    xx: 1000,
+    xy: 1000,
+    yy: 1000,
+};
+
 /// Pixels of one of several kinds: any, the ends, few units, single bright ones.
 pub fn random_pixels(random: &mut Random, count: usize) -> Vec<u16> {
     let kind = random.below(5);

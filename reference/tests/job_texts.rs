@@ -1,8 +1,10 @@
 //! The bench program's texts: what is a job, and what is printed.
 
-use reference::generate::{damaged_text, longest_text, random_job, A_JOB, TEXTS_THAT_ARE_NO_JOBS};
+use reference::generate::{
+    damaged_text, longest_text, random_job, A_JOB, LEANING, TEXTS_THAT_ARE_NO_JOBS,
+};
 use reference::job_text::{answer, gcd, parse, print, reduced, run_job, Job, MAX_TEXT};
-use reference::kernel::{kernel, Covariance};
+use reference::kernel::kernel;
 use reference::random::Random;
 
 fn refusal(text: &[u8]) -> Option<u8> {
@@ -79,15 +81,7 @@ fn divisors() {
             }
         }
     }
-    let lean = kernel(
-        Covariance {
-            xx: 1000,
-            xy: 1000,
-            yy: 1000,
-        },
-        1,
-    )
-    .unwrap();
+    let lean = kernel(LEANING, 1).unwrap();
     assert_eq!(reduced(&lean), [1024, 125, 0, 0, 0, 774, 0, 0, 0, 125]);
 }
 

@@ -1,7 +1,7 @@
 //! Runs between two pictures, the exact run, and the differences of both.
 
 use reference::difference::{difference, difference_stays_within, directional, Difference};
-use reference::generate::random_covariance;
+use reference::generate::{random_covariance, LEANING};
 use reference::kernel::{kernel, Covariance, Kernel, UNITS};
 use reference::natural::Natural;
 use reference::random::Random;
@@ -74,15 +74,7 @@ fn nearest_with_halves_up() {
 /// column and one row on.
 #[test]
 fn the_lean_of_a_step() {
-    let lean = kernel(
-        Covariance {
-            xx: 1000,
-            xy: 1000,
-            yy: 1000,
-        },
-        1,
-    )
-    .unwrap();
+    let lean = kernel(LEANING, 1).unwrap();
     let picture = [0, 0, 0, 0, 16384, 0, 0, 0, 0];
     assert_eq!(
         step(&lean, &picture, 3, 3),

@@ -1,2 +1,3 @@
--- The laws that the proofs share.
+-- The laws that the proofs share, and what is read of what was written.
 pub mod Laws
+pub mod ReadBack

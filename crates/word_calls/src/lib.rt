@@ -45,6 +45,7 @@ pub fn opening(words: &mut [u64]) -> u32
     0
 }
 
+// Submits a job and writes its number.
 pub fn submit(
     words: &mut [u64],
     store: &mut [u16],
