@@ -1,2 +1,3 @@
--- The laws that the proofs share.
+-- The laws that the proofs share, and the words after a call.
 pub mod Laws
+pub mod Held
