@@ -30,7 +30,8 @@ def ids_of(cell: str) -> set[str]:
 
 
 def repository() -> tuple[set[str], set[str]]:
-    """Every path, and every word of a source file. The word of a must-fail edit is its label."""
+    """Every path, and every word of a source file. The word of a must-fail edit is its label; an edit of several wrong programs
+    has a line '# LABEL' for each."""
     paths, words = set(), set()
     for path in ROOT.rglob("*"):
         if {"target", ".git"} & set(path.relative_to(ROOT).parts) or path == CLAIMS:
@@ -41,6 +42,9 @@ def repository() -> tuple[set[str], set[str]]:
         if path.is_file() and path.suffix in SOURCES | {""}:
             text = path.read_text(errors="ignore")
             words |= set(re.findall(r"[\w'·-]+", text)) | set(re.findall(r"[\w']+", text))
+            if path.suffix == ".edit":
+                labels = [str(path.relative_to(ROOT).parent / label) for label in re.findall(r"^# (\w+)$", text, re.MULTILINE)]
+                paths |= {label.removeprefix("crates/") for label in labels}
     return paths, words
 
 

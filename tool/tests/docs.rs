@@ -147,6 +147,15 @@ fn declares(source: &str, name: &str) -> bool {
     })
 }
 
+/// The edit of several wrong programs in a folder that has one of this label.
+fn edit_with(folder: &Path, label: &str) -> Option<PathBuf> {
+    let line = format!("# {label}");
+    let edits = fs::read_dir(folder).ok()?.map(|entry| entry.unwrap().path());
+    edits
+        .filter(|edit| edit.extension().is_some_and(|ending| ending == "edit"))
+        .find(|edit| fs::read_to_string(edit).unwrap().lines().any(|one| one == line))
+}
+
 /// The first of a cited path's meanings that is there: below crates/, the edit of that label, or from the root.
 fn cited(path: &str) -> PathBuf {
     let root = Path::new(REPOSITORY);
@@ -157,6 +166,8 @@ fn cited(path: &str) -> PathBuf {
         root.join(path),
     ];
     let found = meanings.into_iter().find(|place| place.exists());
+    let label = |(folder, label): (&str, &str)| edit_with(&crates.join(folder), label);
+    let found = found.or_else(|| path.rsplit_once('/').and_then(label));
     found.unwrap_or_else(|| panic!("COURSE.md cites {path}, which is not there"))
 }
 

@@ -3,14 +3,14 @@
 use mathlib.Core.Path.{_≡_, refl, sym, ap, ap₂, subst, _∙_}
 use mathlib.Core.Logic.{_⊎_, inl, inr}
 use mathlib.Core.List.{List, [], _∷_, _++_}
-use Prim.Native.Nat.{ℕ, zero, suc, _+_, _-_, _*_, _/_, _%_, _≤_, _<_, min}
+use Prim.Native.Nat.{ℕ, zero, suc, _+_, _*_, _/_, _%_, _≤_, _<_}
 use native.Mathlib.Nat.{mul-one, mul-comm, mul-le-mul-right, le-of-suc-le-suc, not-suc-le-zero, eq-or-lt-of-le}
 use native.Mathlib.Nat.{div-add-mod', div-lt-iff-lt-mul, mod-lt}
 use native.Mathlib.Omega.{arith}
 use lib.ListN.{length, getD, length-append, List·getD-append}
 use lib.Seq.{getD-append-add, ext-getD}
 use lib.IntN.{ℤ, pos, negsuc}
-use Rattle.image.specs.Image.{nearestPlace, pixelAt, entries, rows, imageOf}
+use Rattle.image.specs.Image.{nearestPlace, entries, rows, imageOf}
 
 -- ---- places
 
@@ -88,20 +88,3 @@ module _ {A : Type 0} where
       ext-getD d l (imageOf w h f) (e ∙ sym (length-image w h f))
       (λ i m. every-place w h (λ i. getD l i d ≡ getD (imageOf w h f) i d)
       (λ x y a b. same x y a b ∙ sym (image-entry w h f d x y a b)) i (omega (arith, e, m)))
-
--- ---- pixels
-
--- the pixel at a place inside
-pub pixel-inside : (w h : ℕ) (pixels : List ℕ) (x y : ℕ) → x < w → y < h → pixelAt w h pixels (pos x) (pos y) ≡ getD pixels (y * w + x) 0
-unfolding pixelAt
-pixel-inside w h pixels x y a b =
-    let p : min x (w - 1) ≡ x = omega arith in
-    let q : min y (h - 1) ≡ y = omega arith in
-    rw (p, q)
-
--- the pixel of an image at any place is the entry at the nearest place
-pub pixel-of-image : (w h : ℕ) (f : ℕ → ℕ → ℕ) (x y : ℤ) → 1 ≤ w → 1 ≤ h
-    → pixelAt w h (imageOf w h f) x y ≡ f (nearestPlace w x) (nearestPlace h y)
-unfolding pixelAt
-pixel-of-image w h f x y a b =
-    image-entry w h f 0 (nearestPlace w x) (nearestPlace h y) (nearest-lt w x a) (nearest-lt h y b)

@@ -1,6 +1,6 @@
 -- Document 01, "Smoothing and differences": one step, k steps, and the exact run. Definitions only.
 use mathlib.Core.List.{List}
-use Prim.Native.Nat.{ℕ, zero, suc, _+_, _*_, _/_}
+use Prim.Native.Nat.{ℕ, zero, suc, _+_, _/_}
 use lib.IntN.{pos, _+ℤ_}
 use Rattle.kernel.specs.Offsets.{weighted}
 use Rattle.kernel.specs.declared.Kernel.{Kernel}

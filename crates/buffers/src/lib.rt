@@ -2,10 +2,10 @@
 // another. An inner crate: its functions ask of their callers that the places lie inside.
 ghost use mathlib.Core.Path.{_≡_};
 ghost use Prim.Native.Nat.{_+_, _*_, _≤_};
-ghost use lib.ListN.{length, take};
+ghost use lib.ListN.{length};
 ghost use Rattle.limits.specs.Limits.{bufferPixels};
 ghost use Rattle.averaging.specs.Steps.{stepOf};
-ghost use Rattle.stepping.specs.Step.{StepKernel};
+ghost use Rattle.row_core.specs.Prepared.{StepKernel};
 ghost use Rattle.machine.specs.Store.{part, put};
 ghost use Rattle.buffers.specs.Places.{Between};
 use kernel::Kernel;
@@ -39,19 +39,31 @@ pub fn copy_out(store: &[u16], start: usize, pixels: &mut [u16])
     copy(&store[start..end], pixels);
 }
 
-// The front of an array of a buffer's length. (A local array made where it is used would stand in every goal, element by
-// element.)
-fn lifted(pixels: &[u16]) -> [u16; 1024]
-    requires { ⌜ length (now pixels) ≤ bufferPixels ⌝ }
-    ensures { λ r. ⌜ (length r ≡ bufferPixels) × (take (length (now (pixels .entry))) r ≡ now (pixels .entry)) ⌝ }
+// An array made where it is used would stand in every goal, element by element.
+fn blank_buffer() -> [u16; 1024]
+    ensures { λ r. ⌜ length r ≡ bufferPixels ⌝ }
 {
-    let mut buffer = [0u16; 1024];
-    let mut i = 0usize;
-    while i < pixels.len() {
-        buffer[i] = pixels[i];
-        i += 1;
-    }
-    buffer
+    [0; 1024]
+}
+
+// One step of the picture at one place of the store, to another place, by way of a copy.
+fn step_copied(
+    store: &mut [u16],
+    copied: &mut [u16],
+    from: usize,
+    to: usize,
+    width: usize,
+    height: usize,
+    kernel: Kernel,
+)
+    requires { ⌜ StepKernel kernel ⌝ }
+    requires { ⌜ Between (length (now store)) from to width height ⌝ }
+    requires { ⌜ length (now copied) ≡ width * height ⌝ }
+    ensures { λ _. ⌜ now (store .exit) ≡ put to (stepOf kernel width height (part from (width * height) (now (store .entry)))) (now (store .entry)) ⌝ }
+{
+    let to_end = to + copied.len();
+    copy_out(store, from, copied);
+    stepping::step(copied, &mut store[to..to_end], width, height, kernel);
 }
 
 // One step of the picture at one place of the store, to another place. Two parts of one slice cannot be lent at once, so the
@@ -69,12 +81,12 @@ pub fn step_between(
     ensures { λ _. ⌜ now (store .exit) ≡ put to (stepOf kernel width height (part from (width * height) (now (store .entry)))) (now (store .entry)) ⌝ }
 {
     let pixels = width * height;
-    let from_end = from + pixels;
-    let to_end = to + pixels;
-    let buffer = lifted(&store[from..from_end]);
-    stepping::step(
-        &buffer[0..pixels],
-        &mut store[to..to_end],
+    let mut buffer = blank_buffer();
+    step_copied(
+        store,
+        &mut buffer[0..pixels],
+        from,
+        to,
         width,
         height,
         kernel,

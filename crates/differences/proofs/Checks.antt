@@ -1,16 +1,14 @@
 -- What it tells that no check failed: both sides are in range, and the lent picture and the lent result have w × h entries.
 -- Assumes nothing.
-use mathlib.Core.Path.{_≡_, refl}
-use mathlib.Core.Bool.{Bool, true, false}
-use mathlib.Core.List.{_∷_, []}
+use mathlib.Core.Path.{_≡_}
+use mathlib.Core.Bool.{true}
 use Prim.Native.Nat.{ℕ, _*_}
-use native.Mathlib.Omega.{arith}
 use borrow.Author.Tests.{eqb-true}
 use Rattle.limits.specs.Limits.{longestSide, sideInRange, sidesInRange, fillsPicture}
-use Rattle.limits.specs.Errors.{_otherwise_, firstRefusal}
-use Rattle.limits.specs.declared.ErrorCode.the-variants.{SideOutOfRange, WrongLength}
+use Rattle.limits.specs.Errors.{firstRefusal}
 use Rattle.limits.specs.declared.Outcome.the-variants.{Accepted}
 use Rattle.limits.proofs.Laws.{both-true, in-range}
+use Rattle.limits.proofs.Checks.{all-hold}
 use Rattle.differences.specs.Answers.{differenceChecks}
 use Rattle.differences.specs.Places.{Filled}
 
@@ -29,11 +27,6 @@ filled n m w h sides p r =
     }
 
 pub passed : (n m w h : ℕ) → firstRefusal (differenceChecks n m w h) ≡ Accepted → Filled n m w h
-passed n m w h e = go (sidesInRange w h) (fillsPicture n w h) (fillsPicture m w h) refl refl refl e
-  where
-    go : (s p r : Bool) → sidesInRange w h ≡ s → fillsPicture n w h ≡ p → fillsPicture m w h ≡ r
-        → firstRefusal ((s otherwise SideOutOfRange) ∷ (p otherwise WrongLength) ∷ (r otherwise WrongLength) ∷ []) ≡ Accepted → Filled n m w h
-    go true true true es ep er e = filled n m w h es ep er
-    go true true false es ep er e = let z : _≡_ {A = ℕ} 0 1 = cc in absurd (omega arith)
-    go true false r es ep er e = let z : _≡_ {A = ℕ} 0 1 = cc in absurd (omega arith)
-    go false p r es ep er e = let z : _≡_ {A = ℕ} 0 1 = cc in absurd (omega arith)
+passed n m w h e =
+    let held = all-hold (differenceChecks n m w h) e in
+    filled n m w h (held .0) (held .1 .0) (held .1 .1 .0)

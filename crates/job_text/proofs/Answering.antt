@@ -2,7 +2,7 @@
 use mathlib.Core.Path.{_≡_, refl, sym, ap, _∙_}
 use mathlib.Core.List.{List, _++_}
 use mathlib.Core.Option.{Option, some, none}
-use Prim.Native.Nat.{ℕ, _+_, _*_, _≤_, _<_}
+use Prim.Native.Nat.{ℕ, _*_, _≤_, _<_}
 use native.Mathlib.Nat.{zero-add}
 use native.Mathlib.Omega.{arith}
 use borrow.Author.Tests.{le-leb, lt-leb}
@@ -10,19 +10,21 @@ use lib.ListN.{length, take, drop, length-append}
 use lib.Seq.{take-at}
 use Rattle.limits.specs.declared.ErrorCode.{ErrorCode}
 use Rattle.limits.specs.declared.ErrorCode.the-variants.{TextIsNoJob, WrongLength}
-use Rattle.job_text.specs.Job.{Job}
-use Rattle.job_text.specs.Parsing.{parse}
-use Rattle.job_text.specs.Found.{jobOf}
-use Rattle.job_text.specs.Buffers.{written, mostPixels, Wrote}
-use Rattle.job_text.specs.Answer.{refusalText, jobAnswer, answerText, mostBytes, answered}
-use Rattle.job_text.specs.declared.parser.Header.{Header}
-use Rattle.job_text.specs.declared.parser.JobText.the-variants as job-text
+use Rattle.job_printer.specs.Buffers.{written, Wrote}
+use Rattle.job_printer.specs.Lines.{refusalText}
+use Rattle.job_parser.specs.Job.{Job}
+use Rattle.job_parser.specs.Parsing.{parse}
+use Rattle.job_parser.specs.Found.{jobOf}
+use Rattle.job_parser.specs.Pictures.{mostPixels}
+use Rattle.job_parser.specs.declared.Header.{Header}
+use Rattle.job_parser.specs.declared.JobText.the-variants as job-text
+use Rattle.job_parser.proofs.Parsing.{text-parsed}
+use Rattle.job_parser.proofs.Bounds.{picture-fits}
+use Rattle.job_text.specs.Answer.{jobAnswer, answerText, mostBytes, answered}
 use Rattle.job_text.specs.declared.Printed.the-variants as printed
-use Rattle.job_text.proofs.Parsing.{text-parsed}
-use Rattle.job_text.proofs.Bounds.{picture-fits}
 
 -- a buffer from its start on
-pub written-start : (l vs : List ℕ) → written l 0 vs ≡ vs ++ drop (length vs) l
+written-start : (l vs : List ℕ) → written l 0 vs ≡ vs ++ drop (length vs) l
 unfolding written
 written-start l vs = rw zero-add
 

@@ -1,12 +1,12 @@
--- How many pixels a text can have, and how many bytes an answer. Assumes nothing.
-use mathlib.Core.Path.{_≡_, refl, sym, ap, _∙_}
+-- How many bytes an answer can have. Assumes nothing.
+use mathlib.Core.Path.{_≡_, refl, ap, _∙_}
 use mathlib.Core.List.{List, [], _∷_, map}
 use mathlib.Core.Option.{Option, some, none}
 use Prim.Native.Nat.{ℕ, zero, suc, _+_, _*_, _/_, _^_, _≤_, _<_}
 use native.Mathlib.Nat.{mul-zero, mul-suc, div-le-self, le-trans, lt-of-le-of-lt}
 use native.Mathlib.Omega.{arith}
 use lib.Dec.{lit<}
-use lib.ListN.{length, getD, take, drop, length-append, length-map, length-drop, take-append-drop}
+use lib.ListN.{length, getD, take, drop, length-append, length-map}
 use Rattle.limits.specs.Limits.{largestPixel, longestSide, sideInRange}
 use Rattle.limits.specs.Errors.{numberOf, firstRefusal}
 use Rattle.limits.specs.declared.ErrorCode.{ErrorCode}
@@ -18,46 +18,22 @@ use Rattle.kernel.specs.Offsets.{Offset, offsets, sumOver, total}
 use Rattle.kernel.specs.Sound.{Sound}
 use Rattle.kernel.specs.declared.Kernel.{Kernel}
 use Rattle.kernel.proofs.Theorems.{sound}
-use Rattle.smoothing.proofs.Checks.{all-hold}
+use Rattle.limits.proofs.Checks.{all-hold}
 use Rattle.averaging.specs.Steps.{stepsOf}
 use Rattle.averaging.proofs.Runs.{length-steps}
 use Rattle.averaging.proofs.Bounds.{stays-pixel}
-use Rattle.job_text.specs.Numerals.{numeral}
-use Rattle.job_text.specs.Fields.{line, rowLines}
-use Rattle.job_text.specs.Job.{Job, EachAtMost, InTypes, IsText}
-use Rattle.job_text.specs.Parsing.{parse}
-use Rattle.job_text.specs.Divisors.{quotients, reduced, commonDivisor}
-use Rattle.job_text.specs.Buffers.{mostPixels}
-use Rattle.job_text.specs.Answer.{refusalText, kernelLetter, kernelText, pictureText, jobChecks, jobKernel, resultText, refusalOr, jobAnswer, answerTo, answerText, mostBytes}
-use Rattle.job_text.proofs.Numerals.{short}
-use Rattle.job_text.proofs.Parsing.{header-long, text-parsed}
-use Rattle.job_text.proofs.Rows.{small-front, small-back}
-use Rattle.job_text.proofs.Filling.{line-long}
-
--- ---- the pixels of a text
-
-split : (n : ℕ) (l : List ℕ) → length (take n l) + length (drop n l) ≡ length l
-split n l = sym (length-append (take n l) (drop n l)) ∙ ap length (take-append-drop n l)
-
-rows-long : (w h : ℕ) (pixels : List ℕ) → length pixels ≡ w * h → 2 * length pixels ≤ length (rowLines w h pixels)
-unfolding rowLines
-rows-long w zero pixels e = omega (arith, mul-zero w)
-rows-long w (suc h) pixels e =
-    let rest : length (drop w pixels) ≡ w * h = rw length-drop (omega (arith, mul-suc w h)) in
-    let more = rows-long w h (drop w pixels) rest in
-    rw length-append (omega (arith, line-long (take w pixels), split w pixels))
-
--- EACH PIXEL TAKES AT LEAST A DIGIT AND A SEPARATOR, and line one 14 bytes
-pub pixels-fit : (text : List ℕ) (job : Job) → IsText text job → 2 * length (job .pixels) + 14 ≤ length text
-pixels-fit text job is =
-    let h = job .header in
-    rw (is .bytes, length-append) (omega (arith, header-long h, rows-long (h .width) (h .height) (job .pixels) (is .types .count)))
-
--- so that two pictures of 8,191 pixels are enough for every job text
-pub picture-fits : (text : List ℕ) (job : Job) → IsText text job → length (job .pixels) ≤ mostPixels
-picture-fits text job is = omega (arith, pixels-fit text job is, is .short)
-
--- ---- the bytes of an answer
+use Rattle.job_printer.specs.Numerals.{numeral}
+use Rattle.job_printer.specs.Fields.{line, rowLines}
+use Rattle.job_printer.specs.Divisors.{quotients, reduced, commonDivisor}
+use Rattle.job_printer.specs.Lines.{refusalText, kernelLetter, kernelText, pictureText}
+use Rattle.job_printer.proofs.Numerals.{short}
+use Rattle.job_parser.specs.Job.{Job, EachAtMost, InTypes}
+use Rattle.job_parser.specs.Parsing.{parse}
+use Rattle.job_parser.specs.Pictures.{mostPixels}
+use Rattle.job_parser.proofs.Parsing.{text-parsed}
+use Rattle.job_parser.proofs.Rows.{small-front, small-back}
+use Rattle.job_parser.proofs.Bounds.{split, picture-fits}
+use Rattle.job_text.specs.Answer.{jobChecks, jobKernel, resultText, refusalOr, jobAnswer, answerTo, answerText, mostBytes}
 
 -- numbers below a power of ten, each with what ends its field
 line-most : (k : ℕ) (ns : List ℕ) (m : ℕ) → EachAtMost m ns → m < 10 ^ suc k → length (line (map numeral ns)) ≤ suc (suc k) * length ns

@@ -15,8 +15,9 @@ use Rattle.averaging.proofs.Runs.{length-steps}
 use Rattle.smoothing.specs.Runs.{runChecks, runOf}
 use Rattle.smoothing.specs.Shown.{shownOf}
 use Rattle.smoothing.proofs.Theorems.{shownAfter, answers, shows-last}
-use Rattle.job_text.specs.Answer.{jobChecks, jobKernel, shownText, refusalText, jobAnswer}
-use Rattle.job_text.specs.declared.parser.Header.{Header}
+use Rattle.job_printer.specs.Lines.{refusalText}
+use Rattle.job_parser.specs.declared.Header.{Header}
+use Rattle.job_text.specs.Answer.{jobChecks, jobKernel, shownText, jobAnswer}
 
 abbrev pub shapeOf : Header → Shape
 shapeOf h = Matrix (h .xx) (h .xy) (h .yy)

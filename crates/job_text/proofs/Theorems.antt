@@ -1,13 +1,11 @@
--- The theorems on texts. Reading and writing a job are inverse to each other, so that no job has two spellings and no text is
--- two jobs; refusal 1 is printed exactly for a text that is no job; the numbers of the K line are exact quotients, in lowest
--- terms; and the two buffers have room for every job and for every answer. Assumes nothing.
-use mathlib.Core.Path.{_≡_, refl, sym, ap, _∙_}
+-- The theorems on answers: refusal 1 is printed exactly for a text that is no job, and the buffer has room for every answer.
+-- Assumes nothing.
+use mathlib.Core.Path.{_≡_, refl, ap}
 use mathlib.Core.Bool.{Bool, true, false}
-use mathlib.Core.List.{List, [], _∷_, map}
+use mathlib.Core.List.{List}
 use mathlib.Core.Logic.{_↔_}
 use mathlib.Core.Option.{Option, some, none}
-use Prim.Native.Nat.{ℕ, _*_, _≤_, _<_}
-use native.Mathlib.Nat.{one-mul, one-dvd, mul-dvd-mul-right, dvd-of-mul-dvd-mul-right, div-mul-cancel, pos-of-dvd-of-pos}
+use Prim.Native.Nat.{ℕ, _≤_}
 use native.Mathlib.Omega.{arith}
 use lib.ListN.{length, getD}
 use Rattle.limits.specs.Limits.{stepsInRange, sidesInRange}
@@ -16,36 +14,14 @@ use Rattle.limits.specs.declared.Outcome.the-variants.{Accepted, Refused}
 use Rattle.limits.specs.declared.ErrorCode.the-variants.{TextIsNoJob, StepsOutOfRange, SideOutOfRange, NoKernel}
 use Rattle.kernel.specs.Molecule.{unitsOf}
 use Rattle.kernel.specs.Existence.{kernelExists}
-use Rattle.job_text.specs.Numerals.{numeralWithin, numeral}
-use Rattle.job_text.specs.Fields.{line}
-use Rattle.job_text.specs.Job.{Job, textOf, longestText, InTypes, IsText}
-use Rattle.job_text.specs.Parsing.{parse}
-use Rattle.job_text.specs.Divisors.{DividesEach, GreatestDivisor, commonDivisor, quotients, reduced}
-use Rattle.job_text.specs.Buffers.{mostPixels}
-use Rattle.job_text.specs.Answer.{refusalText, refusalOr, resultText, jobAnswer, answerText, mostBytes}
-use Rattle.job_text.proofs.Parsing.{parse-text, text-parsed}
-use Rattle.job_text.proofs.Divisors.{common-greatest, exact}
-use Rattle.job_text.proofs.Bounds.{picture-fits, answer-short}
-
--- ---- texts and jobs
-
--- EVERY JOB WITHIN THE FORMAT IS READ BACK FROM ITS TEXT ..
-pub read-back : (job : Job) → InTypes job → length (textOf job) ≤ longestText → parse (textOf job) ≡ some job
-read-back job types short = parse-text (textOf job) job (record { bytes = refl; short = short; types = types })
-
--- .. AND A TEXT THAT IS READ AS A JOB IS THAT JOB'S TEXT
-pub spelled : (text : List ℕ) (job : Job) → parse text ≡ some job → text ≡ textOf job
-spelled text job e = text-parsed text job e .bytes
-
--- no job has two spellings
-pub one-spelling : (text other : List ℕ) (job : Job) → parse text ≡ some job → parse other ≡ some job → text ≡ other
-one-spelling text other job e f = spelled text job e ∙ sym (spelled other job f)
-
--- and no two jobs have one text
-pub one-job : (text : List ℕ) (job other : Job) → IsText text job → IsText text other → job ≡ other
-one-job text job other h k = let e : some job ≡ some other = sym (parse-text text job h) ∙ parse-text text other k in cc
-
--- ---- refusal 1
+use Rattle.job_printer.specs.Numerals.{numeralWithin, numeral}
+use Rattle.job_printer.specs.Fields.{line}
+use Rattle.job_printer.specs.Lines.{refusalText}
+use Rattle.job_parser.specs.Job.{Job, IsText}
+use Rattle.job_parser.specs.Parsing.{parse}
+use Rattle.job_parser.proofs.Parsing.{parse-text, text-parsed}
+use Rattle.job_text.specs.Answer.{refusalOr, resultText, jobAnswer, answerText, mostBytes}
+use Rattle.job_text.proofs.Bounds.{answer-short}
 
 -- no answer to a job is refusal 1: its third byte is another digit, or its first another letter
 other-answer : (steps sides kernel : Bool) (result : List ℕ)
@@ -76,37 +52,6 @@ refused-exactly text = (only, λ none-is. always none-is (parse text) refl)
     always : ((job : Job) → IsText text job → ⊥) → (o : Option Job) → parse text ≡ o → answerText text ≡ refusalText TextIsNoJob
     always none-is (some job) e = absurd (none-is job (text-parsed text job e))
     always none-is none e = rw e
-
--- ---- the K line
-
--- THE PRINTED NUMBERS ARE EXACT QUOTIENTS BY THE GREATEST COMMON DIVISOR (`common-greatest` of `proofs/Divisors`)
-pub quotients-exact : (ns : List ℕ) → map (λ q. q * commonDivisor ns) (reduced ns) ≡ ns
-quotients-exact ns = exact (commonDivisor ns) ns (common-greatest ns .divides)
-
-one-divides : (ns : List ℕ) → DividesEach 1 ns
-one-divides [] = tt
-one-divides (n ∷ ns) = (one-dvd n, one-divides ns)
-
-multiplied : (d g : ℕ) (ns : List ℕ) → DividesEach g ns → DividesEach d (quotients g ns) → DividesEach (d * g) ns
-multiplied d g [] h k = tt
-multiplied d g (n ∷ ns) h k = (rw (div-mul-cancel g (h .0)) at (mul-dvd-mul-right d (k .0) g), multiplied d g ns (h .1) (k .1))
-
--- and in lowest terms, where the first, the weights' sum, is not 0
-pub lowest-terms : (sum : ℕ) (weights : List ℕ) → 0 < sum → GreatestDivisor (reduced (sum ∷ weights)) 1
-lowest-terms sum weights positive =
-    let ns : List ℕ = sum ∷ weights in
-    let g = commonDivisor ns in
-    let greatest = common-greatest ns in
-    record {
-      divides = one-divides (reduced ns);
-      greatest = λ d h. dvd-of-mul-dvd-mul-right d (pos-of-dvd-of-pos (greatest .divides .0) positive) (rw (one-mul g) (greatest .greatest (d * g) (multiplied d g ns (greatest .divides) h)));
-    }
-
--- ---- the buffers
-
--- A TEXT OF AT MOST 16,384 BYTES HAS AT MOST 8,191 PIXELS
-pub few-pixels : (text : List ℕ) (job : Job) → parse text ≡ some job → length (job .pixels) ≤ mostPixels
-few-pixels text job e = picture-fits text job (text-parsed text job e)
 
 -- NO ANSWER HAS MORE THAN 49,240 BYTES
 pub few-bytes : (text : List ℕ) → length (answerText text) ≤ mostBytes

@@ -1,13 +1,12 @@
 -- Document 01, "Bench program": what is printed for a text. Definitions only.
 use mathlib.Core.Bool.{cond}
-use mathlib.Core.List.{List, [], _∷_, _++_, map}
+use mathlib.Core.List.{List, [], _∷_, _++_}
 use mathlib.Core.Option.{Option, some, none}
 use Prim.Native.Nat.{ℕ}
 use lib.Dec.{leb}
 use lib.ListN.{length, drop}
 use Rattle.limits.specs.Limits.{stepsInRange, sidesInRange}
-use Rattle.limits.specs.Errors.{numberOf, Check, _otherwise_, firstRefusal}
-use Rattle.limits.specs.declared.ErrorCode.{ErrorCode}
+use Rattle.limits.specs.Errors.{Check, _otherwise_, firstRefusal}
 use Rattle.limits.specs.declared.ErrorCode.the-variants.{TextIsNoJob, StepsOutOfRange, SideOutOfRange, WrongLength, NoKernel}
 use Rattle.limits.specs.declared.Outcome.{Outcome}
 use Rattle.limits.specs.declared.Outcome.the-variants.{Accepted, Refused}
@@ -15,36 +14,12 @@ use Rattle.kernel.specs.Molecule.{unitsOf, kernelOf}
 use Rattle.kernel.specs.Existence.{kernelExists}
 use Rattle.kernel.specs.declared.Kernel.{Kernel}
 use Rattle.averaging.specs.Steps.{stepsOf}
-use Rattle.job_text.specs.Numerals.{numeral}
-use Rattle.job_text.specs.Fields.{line, rowLines}
-use Rattle.job_text.specs.Divisors.{reduced}
-use Rattle.job_text.specs.Job.{Job}
-use Rattle.job_text.specs.Parsing.{parse}
-use Rattle.job_text.specs.declared.parser.Header.{Header}
+use Rattle.job_printer.specs.Lines.{refusalText, kernelText, pictureText}
+use Rattle.job_parser.specs.Job.{Job}
+use Rattle.job_parser.specs.Parsing.{parse}
+use Rattle.job_parser.specs.declared.Header.{Header}
 use Rattle.job_text.specs.declared.Printed.{Printed}
 use Rattle.job_text.specs.declared.Printed.the-variants as printed
-
-abbrev pub refusalLetter : ℕ
-refusalLetter = 82
-
-abbrev pub kernelLetter : ℕ
-kernelLetter = 75
-
-abbrev pub pictureLetter : ℕ
-pictureLetter = 80
-
--- "R and the refusal number on one line, parted by a tab"
-abbrev pub refusalText : ErrorCode → List ℕ
-refusalText code = line ((refusalLetter ∷ []) ∷ numeral (numberOf code) ∷ [])
-
--- "K, the weights' sum and nine weights by row then column, offset −1 first in each, all divided by their greatest common
--- divisor": the weights of a kernel stand in that order
-abbrev pub kernelText : Kernel → List ℕ
-kernelText kernel = line ((kernelLetter ∷ []) ∷ map numeral (reduced (kernel .sum ∷ kernel .weights)))
-
--- "then P, w, h, and the rows"
-abbrev pub pictureText : ℕ → ℕ → List ℕ → List ℕ
-pictureText w h pixels = line ((pictureLetter ∷ []) ∷ numeral w ∷ numeral h ∷ []) ++ rowLines w h pixels
 
 -- refusals 5, 6 and 11, in checking order
 abbrev pub jobChecks : Header → List Check

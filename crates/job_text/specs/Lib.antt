@@ -1,10 +1,2 @@
--- The text format of a job and of its answer.
-pub mod Numerals
-pub mod Fields
-pub mod Job
-pub mod Reading
-pub mod Parsing
-pub mod Found
-pub mod Buffers
-pub mod Divisors
+-- The answer to a job text.
 pub mod Answer

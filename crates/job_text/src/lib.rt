@@ -1,28 +1,18 @@
-// The bench program's work: a job text in, the kernel and the smoothed picture or a refusal out, as text. The job runs between
-// two pictures of this library's own. Each pixel of a text takes at least a digit and a separator, and line one comes first,
-// so that no text of 16,384 bytes has more than 8,191 pixels.
+// The bench program's work: a job text in, the kernel and the smoothed picture or a refusal out, as text. job_parser reads the
+// job, job_printer writes the answer, and the job runs between two pictures of this library's own. Each pixel of a text takes
+// at least a digit and a separator, and line one comes first, so that no text of 16,384 bytes has more than 8,191 pixels.
 ghost use mathlib.Core.Path.{_≡_};
 ghost use Prim.Native.Nat.{_*_, _≤_};
 ghost use lib.ListN.{length};
 ghost use Rattle.limits.specs.Errors.{firstRefusal};
-ghost use Rattle.job_text.specs.Buffers.{mostPixels, Wrote};
+ghost use Rattle.job_printer.specs.Buffers.{Wrote};
+ghost use Rattle.job_parser.specs.Pictures.{mostPixels};
 ghost use Rattle.job_text.specs.Answer.{jobChecks, shownText, jobAnswer, answerText, mostBytes, answered};
 use covariance::Shape;
+use job_parser::Header;
+use job_parser::JobText;
 use limits::ErrorCode;
 use limits::Outcome;
-
-mod cursor;
-mod divisor;
-mod line;
-mod parser;
-mod printer;
-
-use parser::Header;
-use parser::JobText;
-use parser::read_job;
-use printer::put_kernel;
-use printer::put_picture;
-use printer::put_refusal;
 
 const MOST_BYTES: usize = 49240;
 
@@ -47,8 +37,8 @@ fn put_result(out: &mut [u8], header: Header, pixels: &[u16]) -> usize
 {
     let answer = kernel::kernel_of(header.xx, header.xy, header.yy, header.steps);
     let kernel = answer.kernel;
-    let next = put_kernel(out, 0, kernel);
-    put_picture(out, next, pixels, header.width, header.height)
+    let next = job_printer::put_kernel(out, 0, kernel);
+    job_printer::put_picture(out, next, pixels, header.width, header.height)
 }
 
 // A job whose pixels the first picture holds.
@@ -67,7 +57,7 @@ fn run_job(out: &mut [u8], header: Header, first: &mut [u16], second: &mut [u16]
             let pixels = smoothing::shown(steps, width, height, first, second);
             put_result(out, header, pixels)
         }
-        Outcome::Refused(code) => put_refusal(out, code),
+        Outcome::Refused(code) => job_printer::put_refusal(out, code),
     }
 }
 
@@ -78,12 +68,12 @@ fn answer_between(text: &[u8], out: &mut [u8], first: &mut [u16], second: &mut [
     requires { ⌜ mostPixels ≤ length (now second) ⌝ }
     ensures { λ r. ⌜ Wrote (now (out .entry)) 0 (answerText (now (text .entry))) (now (out .exit)) r ⌝ }
 {
-    match read_job(text, first) {
+    match job_parser::read_job(text, first) {
         JobText::Job(header) => {
             let size = limits::area(header.width, header.height);
             run_job(out, header, &mut first[..size], &mut second[..size])
         }
-        JobText::NoJob => put_refusal(out, ErrorCode::TextIsNoJob),
+        JobText::NoJob => job_printer::put_refusal(out, ErrorCode::TextIsNoJob),
     }
 }
 

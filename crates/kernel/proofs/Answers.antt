@@ -1,7 +1,7 @@
 -- What the kernel call answers, once the signs are off: the existence test and the nine weights in naturals. Assumes
 -- nothing.
-use mathlib.Core.Path.{_≡_, refl, sym, ap, _∙_}
-use mathlib.Core.Bool.{Bool, true, false, true≢false}
+use mathlib.Core.Path.{_≡_, ap, _∙_}
+use mathlib.Core.Bool.{true, false, true≢false}
 use mathlib.Core.List.{List, [], _∷_, map}
 use Prim.Native.Nat.{ℕ, _+_, _-_, _*_, _≤_, _<_, min, max}
 use native.Mathlib.Nat.{add-zero, sub-zero}
@@ -13,7 +13,7 @@ use lib.Signed.{ltZ}
 use Rattle.limits.specs.Limits.{stepsInRange}
 use Rattle.limits.specs.declared.Outcome.the-variants.{Accepted, Refused}
 use Rattle.limits.specs.declared.ErrorCode.the-variants.{NoKernel}
-use Rattle.kernel.specs.Molecule.{unitsOf, sumOf, molecule, freeNumber, kernelWith, kernelOf}
+use Rattle.kernel.specs.Molecule.{unitsOf, sumOf, molecule, kernelWith, kernelOf}
 use Rattle.kernel.specs.Existence.{kernelExists}
 use Rattle.kernel.specs.Answer.{noKernel, kernelAnswer}
 use Rattle.kernel.proofs.Plain.{free, exists-plain, none-x, none-y, plain, Between, weights}

@@ -1,16 +1,16 @@
 -- The free number, the existence test and the molecule in naturals, once the signs are off. Assumes nothing.
-use mathlib.Core.Path.{_≡_, refl, sym, ap, ap₂, _∙_}
+use mathlib.Core.Path.{_≡_, refl, ap, ap₂, _∙_}
 use mathlib.Core.Bool.{Bool, true, false, not, cond, true≢false}
 use mathlib.Core.List.{List, [], _∷_, map}
-use Prim.Native.Nat.{ℕ, zero, suc, _+_, _-_, _*_, _≤_, _<_, min, max}
+use Prim.Native.Nat.{ℕ, _+_, _-_, _*_, _≤_, _<_, min, max}
 use native.Mathlib.Omega.{arith}
 use lib.Dec.{T, leb, leb→le, nleb→lt}
-use lib.IntN.{ℤ, pos, negsuc, negℤ, natAbs, _+ℤ_, _-ℤ_, _*ℤ_}
+use lib.IntN.{ℤ, pos, negsuc, natAbs, _+ℤ_, _-ℤ_}
 use lib.Signed.{leZ, ltZ}
 use borrow.Author.Tests.{ltb-true}
 use Rattle.kernel.specs.Molecule.{larger, smaller, freeNumber, molecule}
 use Rattle.kernel.specs.Existence.{kernelExists}
-use Rattle.kernel.proofs.Signs.{diff, plus, minus, parts, neg-parts, sum, is-pos, is-plus}
+use Rattle.kernel.proofs.Signs.{plus, minus, parts, neg-parts, sum, is-pos, is-plus}
 
 -- ---- a signed number on either side of 0
 pub turned : (v : ℤ) → ltZ v (pos 0) ≡ true → pos 0 -ℤ v ≡ pos (natAbs v)

@@ -1,17 +1,17 @@
 -- The theorems on kernels. For every free number between its two bounds the molecule's weights are not negative, sum to
 -- 4 × M, have mean zero and exactly the requested second moments; the test of document 01 passes exactly where nine weights
 -- exist in the wide sense, so refusal 11 is answered exactly where none do. Assumes nothing.
-use mathlib.Core.Path.{_≡_, refl, sym, ap, ap₂, _∙_, subst}
+use mathlib.Core.Path.{_≡_, refl, sym, ap, _∙_, subst}
 use mathlib.Core.Bool.{Bool, true, false, true≢false}
 use mathlib.Core.Logic.{_↔_}
-use mathlib.Core.List.{List, [], _∷_, map}
-use Prim.Native.Nat.{ℕ, zero, suc, _+_, _-_, _*_, _≤_, _<_, min, max}
-use native.Mathlib.Nat.{mul-one, lt-of-lt-of-le, lt-irrefl, mul-comm, mul-assoc, mul-left-comm, mul-add, mul-zero, mul-le-mul-left, le-of-mul-le-mul-left, le-trans, le-of-eq, mul-pos}
+use mathlib.Core.List.{List, map}
+use Prim.Native.Nat.{ℕ, suc, _+_, _-_, _*_, _≤_, _<_, min, max}
+use native.Mathlib.Nat.{mul-one, mul-comm, mul-assoc, mul-left-comm, mul-add, mul-zero, mul-le-mul-left, le-of-mul-le-mul-left, le-trans, le-of-eq, mul-pos}
 use native.Mathlib.Omega.{arith}
 use borrow.Author.Tests.{le-leb, lt-leb, leb-true}
 use lib.Dec.{T, leb}
-use lib.ListN.{length, getD}
-use lib.IntN.{ℤ, pos, negsuc, natAbs, _+ℤ_, _*ℤ_}
+use lib.ListN.{length}
+use lib.IntN.{ℤ, pos, negsuc, natAbs, _*ℤ_}
 use Rattle.limits.specs.Limits.{stepsInRange, mostSteps}
 use Rattle.limits.specs.declared.Outcome.the-variants.{Accepted, Refused}
 use Rattle.limits.specs.declared.ErrorCode.{ErrorCode}
@@ -19,11 +19,11 @@ use Rattle.limits.specs.declared.ErrorCode.the-variants.{NoKernel}
 use Rattle.limits.proofs.Laws.{in-range}
 use Rattle.kernel.specs.declared.Kernel.{Kernel}
 use Rattle.kernel.specs.Offsets.{Offset, offsets, total, moment, weighted}
-use Rattle.kernel.specs.Molecule.{unitsOf, sumOf, molecule, freeNumber, kernelWith, kernelOf}
+use Rattle.kernel.specs.Molecule.{unitsOf, sumOf, molecule, kernelWith, kernelOf}
 use Rattle.kernel.specs.Existence.{kernelExists, Weights}
 use Rattle.kernel.specs.Sound.{Sound}
 use Rattle.kernel.specs.Answer.{kernelAnswer}
-use Rattle.kernel.proofs.Signs.{diff, plus, minus, equal, parts}
+use Rattle.kernel.proofs.Signs.{plus, minus, equal, parts}
 use Rattle.kernel.proofs.Moments.{split, every, mono, constant, second, second-of}
 use Rattle.kernel.proofs.Answers.{absent, present}
 use Rattle.kernel.proofs.Plain.{free, exists-plain, none-x, none-y, plain, Between, plus-le, minus-le, weights}

@@ -1,6 +1,6 @@
 -- What the kernel call answers for every covariance and step count. Definitions only.
 use Prim.Native.Nat.{ℕ}
-use mathlib.Core.List.{List, [], _∷_}
+use mathlib.Core.List.{[], _∷_}
 use lib.ListN.{replicate}
 use lib.IntN.{ℤ, pos, natAbs}
 use lib.Signed.{ltZ}

@@ -6,7 +6,7 @@ use Prim.Native.Nat.{ℕ, _<_}
 use lib.ListN.{length}
 use lib.IntN.{ℤ, pos, _*ℤ_}
 use lib.Signed.{leZ}
-use Rattle.kernel.specs.Offsets.{Offset, total, moment}
+use Rattle.kernel.specs.Offsets.{total, moment}
 use Rattle.kernel.specs.Molecule.{freeNumber, smaller}
 
 -- "A kernel exists exactly when that [the free number] is at most the smaller of xx and yy"

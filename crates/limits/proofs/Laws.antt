@@ -2,7 +2,7 @@
 use mathlib.Core.Path.{_≡_, refl, sym}
 use mathlib.Core.Bool.{Bool, true, false, _&&_, true≢false}
 use Prim.Native.Nat.{ℕ, _≤_}
-use borrow.Author.Tests.{leb-true, le-leb}
+use borrow.Author.Tests.{leb-true}
 use lib.Dec.{leb}
 use Rattle.limits.specs.Limits.{withinOf}
 
@@ -15,6 +15,3 @@ pub in-range : (low high n : ℕ) → withinOf low high n ≡ true → (low ≤ 
 in-range low high n h =
     let e = both-true (leb low n) (leb n high) h in
     (leb-true low n (e .0), leb-true n high (e .1))
-
-pub range-of : (low high n : ℕ) → low ≤ n → n ≤ high → withinOf low high n ≡ true
-range-of low high n l h = rw (le-leb low n l, le-leb n high h)

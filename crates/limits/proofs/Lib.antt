@@ -1,2 +1,3 @@
 -- Laws that the layers above cite.
 pub mod Laws
+pub mod Checks

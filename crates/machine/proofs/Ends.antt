@@ -1,15 +1,15 @@
 -- A collect or a withdraw at a place with the invariant: it finds a job exactly where it is held, and an accepted one ends
 -- it; a collect hands over the picture after all its steps. Assumes nothing.
 use mathlib.Core.Path.{_≡_, refl, sym, _∙_, ap, subst}
-use mathlib.Core.Bool.{Bool, true, false, not, cond, _&&_, true≢false}
-use mathlib.Core.Logic.{_⊎_, inl, inr, ⊎-elim}
+use mathlib.Core.Bool.{Bool, true, false, not, cond, true≢false}
+use mathlib.Core.Logic.{inl, inr, ⊎-elim}
 use mathlib.Core.List.{List, [], _∷_}
-use Prim.Native.Nat.{ℕ, zero, suc, _+_, _-_, _*_, _≤_, _<_}
+use Prim.Native.Nat.{ℕ, zero, suc, _+_, _-_, _*_, _<_}
 use native.Mathlib.Nat.{le-refl}
 use native.Mathlib.Omega.{arith}
-use borrow.Author.Tests.{eq-eqb, ne-eqb, eqb-true, eqb-false, lt-ltb, le-ltb}
+use borrow.Author.Tests.{eq-eqb, ne-eqb, eqb-true, eqb-false, lt-ltb}
 use lib.Dec.{eqb, ltb}
-use lib.ListN.{length, getD}
+use lib.ListN.{length}
 use Rattle.limits.specs.Limits.{fillsPicture}
 use Rattle.limits.specs.Errors.{Check, _otherwise_, firstRefusal}
 use Rattle.limits.specs.declared.Outcome.{Outcome}
@@ -18,18 +18,18 @@ use Rattle.limits.specs.declared.ErrorCode.{ErrorCode}
 use Rattle.limits.specs.declared.ErrorCode.the-variants.{NoSuchJob, StepsAreLeft, WrongLength}
 use Rattle.machine.specs.declared.Slot.{Slot}
 use Rattle.machine.specs.declared.Answer.{Answer}
-use Rattle.machine.specs.declared.Answer.the-variants.{Job, Idle, Refused}
+use Rattle.machine.specs.declared.Answer.the-variants.{Job, Refused}
 use Rattle.machine.specs.declared.Found.{Found}
 use Rattle.machine.specs.declared.Found.the-variants.{At, Nothing}
-use Rattle.machine.specs.Slots.{slotCount, emptySlot, slotAt, isEmpty, hasStepsLeft, hasNumber, firstFrom}
-use Rattle.machine.specs.Store.{part, bufferAfter, stepsDone, currentImage}
+use Rattle.machine.specs.Slots.{slotCount, emptySlot, slotAt, isEmpty, hasNumber, firstFrom}
+use Rattle.machine.specs.Store.{part, bufferAfter, currentImage}
 use Rattle.machine.specs.Calls.{Call, collect, withdraw, Result, callOf, placeOf, emptied, collectChecks, collectOf, withdrawOf}
-use Rattle.machine.specs.History.{Event, Place, next, eventOf, accepts, startsBy, servesBy, endsBy, Submitted, aloneAfter, jobOf, held, ticksOf, stepsLeft, givenBy, numbers, jobCount, heldCount}
+use Rattle.machine.specs.History.{Event, Place, accepts, startsBy, servesBy, endsBy, Submitted, aloneAfter, jobOf, held, ticksOf, stepsLeft, givenBy, numbers, jobCount, heldCount}
 use Rattle.machine.specs.Demand.{numberUnless, withdrawAnswer, collectAnswer, answerAt, lentAfter}
 use Rattle.machine.proofs.Search.{distance, hit, found}
 use Rattle.machine.proofs.Words.{Untouched, same-held, ended-held, many-less}
-use Rattle.machine.proofs.Checks.{AllHold, all-hold}
-use Rattle.machine.proofs.Invariant.{Invariant, Taken, Sits, Change, changed, in-order, is-usable}
+use Rattle.limits.proofs.Checks.{AllHold, all-hold}
+use Rattle.machine.proofs.Invariant.{Invariant, Sits, Change, changed, in-order, is-usable}
 use Rattle.machine.proofs.Served.{Served, sets, refused-call}
 
 -- a call that ends the job with a number where it is accepted: a collect or a withdraw

@@ -1,11 +1,11 @@
 -- What holds at every place of a list: each slot is empty, or sits with one held job, whose picture after so many steps of its
 -- own kernel stands in the slot's buffer; each held job sits in one slot. It is said job by job, so that it carries over a
 -- change of the record. Assumes nothing.
-use mathlib.Core.Path.{_≡_, refl, sym, _∙_, ap, subst}
-use mathlib.Core.Bool.{Bool, true, false, not, cond, _&&_, true≢false}
+use mathlib.Core.Path.{_≡_, refl, sym, _∙_, ap}
+use mathlib.Core.Bool.{Bool, true, false, not, true≢false}
 use mathlib.Core.Logic.{_⊎_, inl, inr, ⊎-elim}
-use mathlib.Core.List.{List, [], _∷_}
-use Prim.Native.Nat.{ℕ, zero, suc, _+_, _-_, _*_, _%_, _≤_, _<_}
+use mathlib.Core.List.{List, _∷_}
+use Prim.Native.Nat.{ℕ, zero, suc, _+_, _*_, _≤_, _<_}
 use native.Mathlib.Nat.{le-trans}
 use native.Mathlib.Omega.{arith}
 use borrow.Author.Tests.{lt-ltb, le-leb, eq-eqb, ne-eqb, eqb-true, eqb-false, leb-true}
@@ -17,14 +17,13 @@ use Rattle.kernel.specs.Molecule.{unitsOf}
 use Rattle.kernel.specs.Existence.{kernelExists}
 use Rattle.covariance.specs.Shapes.{variancesFine, directionFine, covarianceXX, covarianceXY, covarianceYY}
 use Rattle.machine.specs.declared.Slot.{Slot}
-use Rattle.machine.specs.declared.Service.{Service}
 use Rattle.machine.specs.Slots.{slotCount, emptySlot, slotAt, isEmpty, hasNumber, countOf, everySlot}
 use Rattle.machine.specs.Store.{buffersPerSlot, storeLength, part, bufferAfter}
-use Rattle.machine.specs.Order.{allZero, filledFine, unshared, slotFine, inOrder, usable}
+use Rattle.machine.specs.Order.{allZero, filledFine, slotFine, inOrder, usable}
 use Rattle.machine.specs.Calls.{Call}
 use Rattle.machine.specs.History.{Event, Place, next, eventOf, Submitted, aloneAfter, jobOf, held, ticksOf, stepsLeft, numbers, jobCount, heldCount}
 use Rattle.machine.specs.Demand.{countdown}
-use Rattle.machine.proofs.Search.{one, count-same, count-set}
+use Rattle.machine.proofs.Search.{one, count-set}
 use Rattle.machine.proofs.Words.{Untouched, same-held, same-job, same-ticks}
 
 -- what the checks of a submit leave of a job

@@ -4,7 +4,7 @@ pub mod Parts
 pub mod Words
 pub mod Invariant
 pub mod Quiet
-pub mod Checks
+pub mod Counts
 pub mod Served
 pub mod Submits
 pub mod Ticks

@@ -1,25 +1,23 @@
 -- The invariant holds at the opening and after every list of calls; a number is never given again, so what a job was stays,
 -- and a finished job stays finished. Assumes nothing.
 use mathlib.Core.Path.{_≡_, refl, sym, _∙_, ap}
-use mathlib.Core.Bool.{Bool, true, false, true≢false}
-use mathlib.Core.Logic.{_⊎_, inl, inr, ⊎-elim}
+use mathlib.Core.Bool.{false, true≢false}
+use mathlib.Core.Logic.{inl}
 use mathlib.Core.List.{List, [], _∷_}
-use Prim.Native.Nat.{ℕ, zero, suc, _+_, _-_, _≤_, _<_}
+use Prim.Native.Nat.{ℕ, zero, suc, _+_, _≤_, _<_}
 use native.Mathlib.Nat.{le-trans, le-of-eq}
 use native.Mathlib.Omega.{arith}
 use borrow.Author.Tests.{ne-eqb}
 use lib.ListN.{length, getD, replicate}
-use Rattle.limits.specs.Errors.{firstRefusal}
 use Rattle.limits.specs.declared.Outcome.{Outcome}
 use Rattle.limits.specs.declared.Outcome.the-variants as O
-use Rattle.covariance.specs.declared.Shape.{Shape}
 use Rattle.machine.specs.declared.Answer.{Answer}
 use Rattle.machine.specs.declared.Answer.the-variants.{Job, Idle, Refused}
-use Rattle.machine.specs.Slots.{slotCount, emptySlot, slotAt, opening, countOf}
+use Rattle.machine.specs.Slots.{slotCount, emptySlot, countOf}
 use Rattle.machine.specs.Store.{storeLength}
 use Rattle.machine.specs.Calls.{Call, submit, tick, collect, withdraw}
-use Rattle.machine.specs.History.{Place, opened, next, eventOf, after, answersNumber, starts, jobOf, held, ticksOf, stepsLeft, numbers, howMany, jobCount}
-use Rattle.machine.specs.Demand.{numberUnless, submitOutcome, submitAnswer, withdrawAnswer, collectAnswer, answerAt}
+use Rattle.machine.specs.History.{Place, opened, next, eventOf, after, answersNumber, starts, held, stepsLeft, numbers, howMany, jobCount}
+use Rattle.machine.specs.Demand.{numberUnless, submitOutcome, submitAnswer, withdrawAnswer, collectAnswer}
 use Rattle.machine.proofs.Words.{same-numbers, kept-job, more-ticks}
 use Rattle.machine.proofs.Invariant.{Invariant}
 use Rattle.machine.proofs.Served.{Served, Effect, still, sets}

@@ -1,7 +1,7 @@
 -- A service opened for one job only: its submit and its ticks are all accepted, and its collect hands over the picture after
 -- its steps. Assumes nothing.
-use mathlib.Core.Path.{_≡_, refl, sym, _∙_, ap}
-use mathlib.Core.Bool.{Bool, true, false, _&&_, true≢false}
+use mathlib.Core.Path.{_≡_, refl, _∙_, ap}
+use mathlib.Core.Bool.{true, _&&_}
 use mathlib.Core.List.{List, [], _∷_}
 use Prim.Native.Nat.{ℕ, zero, suc, _+_, _-_, _*_, _≤_, _<_}
 use native.Mathlib.Nat.{add-zero}
@@ -9,16 +9,14 @@ use native.Mathlib.Omega.{arith}
 use borrow.Author.Tests.{eq-eqb}
 use lib.Dec.{eqb}
 use lib.ListN.{length, replicate}
-use Rattle.limits.specs.Limits.{fillsPicture}
 use Rattle.limits.specs.declared.Outcome.the-variants as O
-use Rattle.machine.specs.declared.Answer.the-variants.{Job, Idle, Refused}
+use Rattle.machine.specs.declared.Answer.the-variants.{Job}
 use Rattle.machine.specs.Store.{storeLength}
 use Rattle.machine.specs.Calls.{Call, submit, tick, collect}
-use Rattle.machine.specs.History.{Event, Place, opened, next, eventOf, after, accepts, answersNumber, Submitted, aloneAfter, jobOf, held, ticksOf, stepsLeft, givenBy, numbers, howMany, jobCount}
-use Rattle.machine.specs.Demand.{submitOutcome, collectAnswer, answerAt, lentAfter, loneCalls, allAccepted}
+use Rattle.machine.specs.History.{Place, opened, next, eventOf, after, accepts, answersNumber, Submitted, aloneAfter, jobOf, held, ticksOf, stepsLeft, givenBy, numbers, howMany, jobCount}
+use Rattle.machine.specs.Demand.{submitOutcome, answerAt, lentAfter, loneCalls, allAccepted}
 use Rattle.machine.proofs.Words.{kept-held, kept-job, served-ticks, started-held, started-job, started-ticks}
 use Rattle.machine.proofs.Invariant.{Invariant, JobFine}
-use Rattle.machine.proofs.Served.{Served}
 use Rattle.machine.proofs.Submits.{submits}
 use Rattle.machine.proofs.Ticks.{Ticked, idled, served, ticked}
 use Rattle.machine.proofs.Ends.{collects, hands-over}

@@ -1,8 +1,8 @@
 -- What a record that is in order says of each slot: the facts that the running calls work with. Assumes nothing.
-use mathlib.Core.Path.{_≡_, refl, sym, _∙_, ap}
+use mathlib.Core.Path.{_≡_, refl}
 use mathlib.Core.Bool.{Bool, true, false, cond, _&&_}
 use mathlib.Core.List.{List}
-use Prim.Native.Nat.{ℕ, zero, suc, _≤_, _<_}
+use Prim.Native.Nat.{ℕ, zero, suc, _<_}
 use native.Mathlib.Omega.{arith}
 use borrow.Author.Tests.{eqb-true, eqb-false, ne-eqb, ltb-true, leb-true, eq-eqb}
 use lib.Dec.{eqb, ltb, leb}
@@ -14,7 +14,7 @@ use Rattle.kernel.specs.Existence.{kernelExists}
 use Rattle.machine.specs.declared.Slot.{Slot}
 use Rattle.machine.specs.declared.Service.{Service}
 use Rattle.machine.specs.declared.Found.the-variants.{At, Nothing}
-use Rattle.machine.specs.Slots.{slotCount, emptySlot, slotAt, isEmpty, hasNumber, firstFrom, everySlot}
+use Rattle.machine.specs.Slots.{slotCount, emptySlot, slotAt, hasNumber, firstFrom, everySlot}
 use Rattle.machine.specs.Calls.{placeOf}
 use Rattle.machine.proofs.Search.{found}
 use Rattle.machine.specs.Order.{Filled, isZero, allZero, filledFine, unshared, slotFine, inOrder}

@@ -1,16 +1,15 @@
 -- A call that accepts nothing, refused or idle, keeps the invariant: it touches no job, and the record and the store are as
 -- they were. Assumes nothing.
-use mathlib.Core.Path.{_≡_, refl, sym, _∙_, ap}
-use mathlib.Core.Bool.{Bool, true, false, not}
-use mathlib.Core.Logic.{_⊎_, inl, inr, ⊎-elim}
-use mathlib.Core.List.{List, [], _∷_}
-use Prim.Native.Nat.{ℕ, _≤_, _<_}
+use mathlib.Core.Path.{_≡_, sym, _∙_, ap}
+use mathlib.Core.Bool.{false}
+use mathlib.Core.Logic.{inl, inr}
+use Prim.Native.Nat.{ℕ}
 use native.Mathlib.Nat.{le-of-eq}
 use lib.ListN.{length}
 use Rattle.machine.specs.declared.Slot.{Slot}
-use Rattle.machine.specs.Slots.{slotCount, slotAt}
+use Rattle.machine.specs.Slots.{slotAt}
 use Rattle.machine.specs.Calls.{Call}
-use Rattle.machine.specs.History.{Event, Place, next, eventOf, accepts, held, numbers, jobCount}
+use Rattle.machine.specs.History.{Place, next, eventOf, accepts, jobCount}
 use Rattle.machine.specs.Demand.{countdown}
 use Rattle.machine.proofs.Words.{untouched-by, same-held, same-numbers, same-held-count}
 use Rattle.machine.proofs.Invariant.{Invariant, Taken, sits-still}

@@ -1,18 +1,17 @@
 -- Searches over the slots, for any number of them: what a search finds passes the test and is none further than any other that
 -- passes; and how counts change where one slot is set. Assumes nothing.
 use mathlib.Core.Path.{_≡_, refl, sym, _∙_, ap}
-use mathlib.Core.Bool.{Bool, true, false, not, cond, true≢false}
+use mathlib.Core.Bool.{Bool, true, false, cond, true≢false}
 use mathlib.Core.List.{List}
 use Prim.Native.Nat.{ℕ, zero, suc, _+_, _-_, _≤_, _<_}
 use native.Mathlib.Omega.{arith}
-use borrow.Author.Tests.{ltb-true, ltb-false, eqb-true, eqb-false, lt-ltb, le-ltb}
+use borrow.Author.Tests.{ltb-true, ltb-false, eqb-true, eqb-false}
 use lib.Dec.{ltb, eqb}
 use lib.ListN.{length, getD, set}
 use lib.Seq.{getD-set-same, getD-set-other}
 use Rattle.machine.specs.declared.Slot.{Slot}
-use Rattle.machine.specs.declared.Found.{Found}
 use Rattle.machine.specs.declared.Found.the-variants.{At, Nothing}
-use Rattle.machine.specs.Slots.{emptySlot, nextPlace, firstFrom, countOf, everySlot}
+use Rattle.machine.specs.Slots.{emptySlot, nextPlace, firstFrom, countOf}
 
 pub next-lt : (size i : ℕ) → 0 < size → nextPlace size i < size
 next-lt size i h = go (ltb (i + 1) size) refl

@@ -1,6 +1,6 @@
 -- What a call does at a place with the invariant: its answer, and that it keeps the invariant. Assumes nothing.
 use mathlib.Core.Path.{_≡_, refl, _∙_, ap}
-use mathlib.Core.Bool.{Bool, true, false}
+use mathlib.Core.Bool.{true, false}
 use mathlib.Core.Logic.{_⊎_}
 use Prim.Native.Nat.{ℕ}
 use Rattle.limits.specs.declared.ErrorCode.{ErrorCode}

@@ -1,16 +1,16 @@
 -- A submit at a place with the invariant: its answer is the one that the calls and answers before it give, and it keeps the
 -- invariant. Assumes nothing.
 use mathlib.Core.Path.{_≡_, refl, sym, _∙_, ap}
-use mathlib.Core.Bool.{Bool, true, false, not, cond, true≢false}
-use mathlib.Core.Logic.{_⊎_, inl, inr, ⊎-elim}
+use mathlib.Core.Bool.{Bool, true, false, not, true≢false}
+use mathlib.Core.Logic.{inl, inr, ⊎-elim}
 use mathlib.Core.List.{List, [], _∷_}
-use Prim.Native.Nat.{ℕ, zero, suc, _+_, _-_, _*_, _≤_, _<_}
+use Prim.Native.Nat.{ℕ, suc, _+_, _-_, _*_, _≤_}
 use native.Mathlib.Nat.{sub-zero}
 use native.Mathlib.Numerals.{add-one}
 use native.Mathlib.Omega.{arith}
 use borrow.Author.Tests.{eq-eqb, ne-eqb, eqb-true, ltb-true}
-use lib.Dec.{eqb, ltb, leb}
-use lib.ListN.{length, getD}
+use lib.Dec.{eqb, ltb}
+use lib.ListN.{length}
 use Rattle.limits.specs.Errors.{Check, _otherwise_, firstRefusal}
 use Rattle.limits.specs.Limits.{bufferPixels}
 use Rattle.limits.specs.declared.Outcome.{Outcome}
@@ -19,19 +19,19 @@ use Rattle.limits.specs.declared.ErrorCode.{ErrorCode}
 use Rattle.limits.specs.declared.ErrorCode.the-variants.{NoFreeBuffers, NumbersUsedUp}
 use Rattle.covariance.specs.declared.Shape.{Shape}
 use Rattle.averaging.specs.Steps.{iterate}
-use Rattle.machine.specs.declared.Answer.{Answer}
-use Rattle.machine.specs.declared.Answer.the-variants.{Job, Idle, Refused}
-use Rattle.machine.specs.declared.Found.the-variants.{At, Nothing}
-use Rattle.machine.specs.Slots.{slotCount, emptySlot, slotAt, isEmpty, nextPlace, firstFrom, countOf}
-use Rattle.machine.specs.Store.{bufferCount, buffersPerSlot, storeLength, part, put, bufferAfter}
-use Rattle.machine.specs.Calls.{Call, submit, Result, callOf, lastNumber, freeBuffers, submittedChecks, submitChecks, emptyPlace, newSlot, submitAt, unlessRefused, submitOf}
-use Rattle.machine.specs.History.{Event, Place, next, eventOf, accepts, Submitted, jobOf, held, ticksOf, stepsLeft, numbers, howMany, jobCount, heldCount}
-use Rattle.machine.specs.Demand.{numberUnless, submitAnswer, answerAt, lentAfter, lentTo, countdown}
-use Rattle.machine.proofs.Search.{Hit, hit, distance, found, next-lt}
+use Rattle.machine.specs.declared.Answer.the-variants.{Job, Refused}
+use Rattle.machine.specs.declared.Found.the-variants.{At}
+use Rattle.machine.specs.Slots.{slotCount, slotAt, isEmpty, nextPlace}
+use Rattle.machine.specs.Store.{put, bufferAfter}
+use Rattle.machine.specs.Calls.{submit, Result, lastNumber, freeBuffers, submittedChecks, submitChecks, newSlot, submitAt, submitOf}
+use Rattle.machine.specs.History.{Event, Place, accepts, held, numbers, howMany, jobCount, heldCount}
+use Rattle.machine.specs.Demand.{numberUnless, submitAnswer, countdown}
+use Rattle.machine.proofs.Search.{Hit, hit, distance, next-lt}
 use Rattle.machine.proofs.Parts.{length-put, part-own, part-other}
 use Rattle.machine.proofs.Words.{Untouched, same-held, started-held, started-job, started-ticks, many-same}
-use Rattle.machine.proofs.Checks.{AllHold, all-hold, count-le, some-empty, free-test}
-use Rattle.machine.proofs.Invariant.{Invariant, Taken, Sits, JobFine, slotOf, Change, changed, is-usable, block, within-block, from-block, fits-le}
+use Rattle.limits.proofs.Checks.{AllHold, all-hold}
+use Rattle.machine.proofs.Counts.{count-le, some-empty, free-test}
+use Rattle.machine.proofs.Invariant.{Invariant, Sits, JobFine, Change, changed, is-usable, block, within-block, from-block, fits-le}
 use Rattle.machine.proofs.Served.{Served, sets, refused-call}
 
 module _ (p : Place) (v : Invariant p) (shape : Shape) (k w h : ℕ) (pixels : List ℕ) where

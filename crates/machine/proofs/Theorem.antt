@@ -1,11 +1,10 @@
 -- Demand 3, of every list of calls. Assumes nothing.
-use mathlib.Core.Path.{_≡_, refl, sym, _∙_, ap}
-use mathlib.Core.Bool.{Bool, true, false, not}
-use mathlib.Core.Logic.{_⊎_, inl, inr, ⊎-elim, _↔_}
+use mathlib.Core.Path.{_≡_, sym, _∙_, ap}
+use mathlib.Core.Bool.{true, not}
+use mathlib.Core.Logic.{_⊎_, inl, inr, _↔_}
 use mathlib.Core.List.{List}
-use Prim.Native.Nat.{ℕ, _+_, _-_, _*_, _≤_, _<_}
+use Prim.Native.Nat.{ℕ, _-_, _*_, _<_}
 use native.Mathlib.Omega.{arith}
-use lib.ListN.{length}
 use Rattle.kernel.proofs.Theorems.{sound}
 use Rattle.covariance.specs.Shapes.{covarianceXX, covarianceXY, covarianceYY}
 use Rattle.averaging.specs.Distances.{Entrywise, Distance}
@@ -13,19 +12,19 @@ use Rattle.averaging.proofs.Distance.{distance}
 use Rattle.machine.specs.declared.Answer.the-variants.{Job, Idle}
 use Rattle.machine.specs.declared.FreeCount.the-variants.{Buffers}
 use Rattle.machine.specs.Slots.{slotCount, isEmpty, nextPlace}
-use Rattle.machine.specs.Store.{bufferCount, buffersPerSlot, storeLength}
-use Rattle.machine.specs.Calls.{Call, tick, collect, freeBuffers, freeCountOf}
+use Rattle.machine.specs.Store.{bufferCount, buffersPerSlot}
+use Rattle.machine.specs.Calls.{Call, tick, freeBuffers, freeCountOf}
 use Rattle.machine.specs.History.{Place, opened, after, since, kernelOfJob, aloneAfter, exactAfter, Submitted, jobOf, held, stepsLeft, heldCount, withdrawnIn, ticksIn}
-use Rattle.machine.specs.Demand.{answerAt, lentAfter, AtPlace, Demand3}
+use Rattle.machine.specs.Demand.{answerAt, AtPlace, Demand3}
 use Rattle.machine.proofs.Search as S
-use Rattle.machine.proofs.Checks.{count-le}
+use Rattle.machine.proofs.Counts.{count-le}
 use Rattle.machine.proofs.Invariant.{Invariant, JobFine, in-order}
 use Rattle.machine.proofs.Submits.{submits}
 use Rattle.machine.proofs.Ticks.{Ticked, idled, served, ticked}
-use Rattle.machine.proofs.Ends.{Seated, seated, withdraws, collects, hands-over}
+use Rattle.machine.proofs.Ends.{seated, withdraws, collects, hands-over}
 use Rattle.machine.proofs.Lists.{answers, after-invariant, opened-invariant}
 use Rattle.machine.proofs.Lone.{lone-accepted, lone-answer, lone-picture}
-use Rattle.machine.proofs.Wait.{Waiting, waits}
+use Rattle.machine.proofs.Wait.{waits}
 
 idle-no-job : (n : ℕ) → Job n ≡ Idle → ⊥
 idle-no-job n e = let z : _≡_ {A = ℕ} 0 1 = cc in omega arith

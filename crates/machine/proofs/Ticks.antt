@@ -1,33 +1,31 @@
 -- A tick at a place with the invariant: it answers a held job that has steps left and takes it one step on, or it is idle and
 -- no held job has any left. Assumes nothing.
 use mathlib.Core.Path.{_≡_, refl, sym, _∙_, ap}
-use mathlib.Core.Bool.{Bool, true, false, not, cond, true≢false}
-use mathlib.Core.Logic.{_⊎_, inl, inr, ⊎-elim}
+use mathlib.Core.Bool.{true, false, true≢false}
+use mathlib.Core.Logic.{inr, ⊎-elim}
 use mathlib.Core.List.{List, [], _∷_}
-use Prim.Native.Nat.{ℕ, zero, suc, _+_, _-_, _*_, _≤_, _<_}
+use Prim.Native.Nat.{ℕ, _+_, _-_, _*_, _≤_, _<_}
 use native.Mathlib.Nat.{le-refl}
 use native.Mathlib.Numerals.{add-one}
 use native.Mathlib.Omega.{arith}
 use borrow.Author.Tests.{eq-eqb, ne-eqb, ltb-true, ltb-false}
-use lib.Dec.{eqb, ltb}
-use lib.ListN.{length, getD}
+use lib.Dec.{eqb}
+use lib.ListN.{length}
 use Rattle.limits.specs.Limits.{bufferPixels}
 use Rattle.averaging.specs.Steps.{stepOf, iterate}
 use Rattle.averaging.proofs.Images.{length-image}
 use Rattle.machine.specs.declared.Slot.{Slot}
-use Rattle.machine.specs.declared.Answer.{Answer}
-use Rattle.machine.specs.declared.Answer.the-variants.{Job, Idle, Refused}
+use Rattle.machine.specs.declared.Answer.the-variants.{Job, Idle}
 use Rattle.machine.specs.declared.Found.{Found}
 use Rattle.machine.specs.declared.Found.the-variants.{At, Nothing}
-use Rattle.machine.specs.Slots.{slotCount, emptySlot, slotAt, isEmpty, hasStepsLeft, nextPlace, firstFrom}
-use Rattle.machine.specs.Store.{part, put, bufferAfter, pixelCount, stepsDone, currentImage}
-use Rattle.machine.specs.Calls.{Call, tick, Result, callOf, tickAt, tickOf, servedPlace, steppedSlot, nextImage, kernelOfSlot}
+use Rattle.machine.specs.Slots.{slotCount, slotAt, isEmpty, hasStepsLeft, nextPlace}
+use Rattle.machine.specs.Store.{part, put, bufferAfter, stepsDone}
+use Rattle.machine.specs.Calls.{tick, Result, tickAt, tickOf, servedPlace, steppedSlot, nextImage}
 use Rattle.machine.specs.History.{Event, Place, next, eventOf, accepts, serves, Submitted, kernelOfJob, aloneAfter, jobOf, held, ticksOf, stepsLeft, numbers, jobCount, heldCount}
-use Rattle.machine.specs.Demand.{answerAt}
 use Rattle.machine.proofs.Search.{found, nothing, next-lt}
 use Rattle.machine.proofs.Parts.{length-put, part-own, part-other}
 use Rattle.machine.proofs.Words.{Untouched, kept-held, kept-job, served-ticks, many-ext}
-use Rattle.machine.proofs.Invariant.{Invariant, Taken, Sits, slotOf, Change, changed, is-usable, block, within-block, from-block, fits-le}
+use Rattle.machine.proofs.Invariant.{Invariant, Sits, slotOf, Change, changed, is-usable, block, within-block, from-block, fits-le}
 use Rattle.machine.proofs.Served.{Served, sets, idle-call}
 
 module _ (p : Place) (v : Invariant p) where

@@ -4,28 +4,24 @@ use mathlib.Core.Path.{_≡_, refl, sym, _∙_, ap, subst}
 use mathlib.Core.Bool.{Bool, true, false, _&&_, _||_, true≢false}
 use mathlib.Core.Logic.{_⊎_, inl, inr, ⊎-elim}
 use mathlib.Core.List.{List, [], _∷_, _++_}
-use Prim.Native.Nat.{ℕ, zero, suc, _+_, _-_, _*_, _≤_, _<_}
+use Prim.Native.Nat.{ℕ, _+_, _-_, _*_, _≤_, _<_}
 use native.Mathlib.Nat.{le-trans}
 use native.Mathlib.Omega.{arith}
 use borrow.Author.Tests.{eq-eqb, ne-eqb, eqb-true, eqb-false, lt-ltb}
-use lib.Dec.{eqb, ltb}
-use lib.ListN.{length, getD}
+use lib.Dec.{eqb}
 use lib.Seq.{getD-set-same, getD-set-other}
-use Rattle.limits.specs.Errors.{firstRefusal}
 use Rattle.limits.specs.declared.ErrorCode.the-variants.{StepsAreLeft}
-use Rattle.covariance.specs.declared.Shape.{Shape}
 use Rattle.machine.specs.declared.Slot.{Slot}
-use Rattle.machine.specs.declared.Answer.{Answer}
-use Rattle.machine.specs.declared.Answer.the-variants.{Job, Idle, Refused}
-use Rattle.machine.specs.declared.Found.the-variants.{At, Nothing}
+use Rattle.machine.specs.declared.Answer.the-variants.{Refused}
+use Rattle.machine.specs.declared.Found.the-variants.{At}
 use Rattle.machine.specs.Slots.{slotCount, emptySlot, slotAt, hasStepsLeft, nextPlace}
 use Rattle.machine.specs.Calls.{Call, submit, tick, collect, withdraw, servedPlace}
-use Rattle.machine.specs.History.{Event, Place, next, eventOf, after, since, accepts, answersNumber, starts, serves, ends, withdrawsBy, jobOf, held, ticksOf, stepsLeft, jobCount, withdrawnIn, oneForTick, ticksIn}
+use Rattle.machine.specs.History.{Event, Place, next, eventOf, after, since, accepts, answersNumber, serves, ends, withdrawsBy, jobOf, held, ticksOf, stepsLeft, jobCount, withdrawnIn, oneForTick, ticksIn}
 use Rattle.machine.specs.Demand.{answerAt, collectAnswer}
-use Rattle.machine.proofs.Search.{Ahead, distance, Hit, hit, nearer, round-again, next-lt}
+use Rattle.machine.proofs.Search.{Ahead, Hit, hit, nearer, round-again, next-lt}
 use Rattle.machine.proofs.Words.{untouched-by, same-held, same-job, same-ticks, kept-held, kept-job, served-ticks}
-use Rattle.machine.proofs.Invariant.{Invariant, Sits, Change}
-use Rattle.machine.proofs.Served.{Served, Effect, still, sets}
+use Rattle.machine.proofs.Invariant.{Invariant, Change}
+use Rattle.machine.proofs.Served.{Effect, still, sets}
 use Rattle.machine.proofs.Ticks.{Ticked, idled, served, ticked}
 use Rattle.machine.proofs.Ends.{collects}
 use Rattle.machine.proofs.Lists.{answers, next-invariant, jobs-grow, stays-finished}

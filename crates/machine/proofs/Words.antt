@@ -1,17 +1,17 @@
 -- How the words of demand 3 change with one more event. An event touches at most one job; of every other the words stay as
 -- they were. Assumes nothing.
 use mathlib.Core.Path.{_≡_, refl, sym, _∙_, ap}
-use mathlib.Core.Bool.{Bool, true, false, cond, _&&_, _||_, true≢false}
-use mathlib.Core.List.{List, [], _∷_, _++_}
-use Prim.Native.Nat.{ℕ, zero, suc, _+_, _-_, _≤_, _<_}
+use mathlib.Core.Bool.{Bool, true, false, cond, _&&_, true≢false}
+use mathlib.Core.List.{List, [], _∷_}
+use Prim.Native.Nat.{ℕ, zero, suc, _+_, _≤_, _<_}
 use native.Mathlib.Omega.{arith}
-use borrow.Author.Tests.{eq-eqb, ne-eqb, eqb-true, eqb-false}
+use borrow.Author.Tests.{eqb-true, eqb-false}
 use lib.Dec.{eqb}
 use lib.ListN.{length}
 use Rattle.machine.specs.declared.Answer.{Answer}
 use Rattle.machine.specs.declared.Answer.the-variants.{Job, Idle, Refused}
 use Rattle.machine.specs.Calls.{Call, submit, tick, collect, withdraw}
-use Rattle.machine.specs.History.{Event, accepts, starts, serves, ends, withdrawsBy, Submitted, submittedBy, noJob, jobOf, held, ticksOf, stepsLeft, givenBy, numbers, howMany, jobCount, heldCount}
+use Rattle.machine.specs.History.{Event, accepts, starts, serves, ends, submittedBy, noJob, jobOf, held, ticksOf, givenBy, numbers, howMany, heldCount}
 use Rattle.machine.specs.Demand.{countdown}
 
 -- an event that neither starts, serves nor ends the job with this number

@@ -1,6 +1,6 @@
 -- The calls of the service: each as a function of the record, the store and what is lent to it, with its refusals in checking
 -- order. Definitions only; the contracts of the running calls are equations with these.
-use mathlib.Core.Bool.{Bool, true, false, not, cond, _&&_}
+use mathlib.Core.Bool.{Bool, true, false, not, cond}
 use mathlib.Core.List.{List, [], _∷_}
 use Prim.Native.Nat.{ℕ, _+_, _-_, _*_, _^_}
 use lib.Dec.{leb, ltb, eqb}
@@ -26,7 +26,7 @@ use Rattle.machine.specs.declared.FreeCount.{FreeCount}
 use Rattle.machine.specs.declared.Found.{Found}
 use Rattle.machine.specs.declared.Found.the-variants.{At, Nothing}
 use Rattle.machine.specs.Slots.{slotCount, emptySlot, slotAt, isEmpty, hasStepsLeft, hasNumber, nextPlace, firstFrom, countOf}
-use Rattle.machine.specs.Store.{bufferCount, buffersPerSlot, part, put, bufferAfter, pixelCount, stepsDone, currentImage}
+use Rattle.machine.specs.Store.{bufferCount, buffersPerSlot, put, bufferAfter, stepsDone, currentImage}
 use Rattle.machine.specs.Order.{inOrder, usable}
 
 -- what a call leaves behind: its answer, the record, the store, and the picture that was lent to it
@@ -121,19 +121,27 @@ submitOf r store shape k w h pixels =
 abbrev pub kernelOfSlot : Slot → Kernel
 kernelOfSlot s = kernelOf (s .xx) (s .xy) (s .yy) (s .steps)
 
--- a slot with one step less left
-abbrev pub steppedSlot : Slot → Slot
-steppedSlot s =
+-- a slot with so many steps left, and with one step less
+abbrev pub withLeft : Slot → ℕ → Slot
+withLeft s left =
     record {
       number = s .number;
       xx = s .xx;
       xy = s .xy;
       yy = s .yy;
       steps = s .steps;
-      left = s .left - 1;
+      left = left;
       width = s .width;
       height = s .height;
     }
+
+abbrev pub steppedSlot : Slot → Slot
+steppedSlot s = withLeft s (s .left - 1)
+
+-- the record with so many steps left of a slot, which is then the one last served
+abbrev pub turnedAt : Service → ℕ → ℕ → Service
+turnedAt r i left =
+    record { slots = set (r .slots) i (withLeft (slotAt r i) left); last = r .last; filled = r .filled; served = i }
 
 -- "one step, from the buffer of the current picture to the seat's other one, w × h pixels only"
 abbrev pub nextImage : List ℕ → ℕ → Slot → List ℕ
@@ -148,8 +156,7 @@ abbrev pub tickAt : Service → List ℕ → Found → Result
 tickAt r store (At i) =
     record {
       answer = A.Answer.Job (slotAt r i .number);
-      service =
-          record { slots = set (r .slots) i (steppedSlot (slotAt r i)); last = r .last; filled = r .filled; served = i };
+      service = turnedAt r i (slotAt r i .left - 1);
       store = put (bufferAfter i (stepsDone (slotAt r i) + 1)) (nextImage store i (slotAt r i)) store;
       lent = [];
     }

@@ -3,7 +3,7 @@
 use mathlib.Core.Path.{_≡_}
 use mathlib.Core.Bool.{Bool, true, false, _&&_}
 use mathlib.Core.Logic.{_⊎_, _↔_}
-use mathlib.Core.List.{List, [], _∷_, _++_}
+use mathlib.Core.List.{List, [], _∷_}
 use Prim.Native.Nat.{ℕ, zero, suc, _+_, _-_, _*_, _≤_, _<_}
 use lib.Dec.{ltb, eqb}
 use lib.ListN.{length, replicate}
@@ -19,7 +19,7 @@ use Rattle.machine.specs.declared.Answer.the-variants.{Job, Idle, Refuse
 use Rattle.machine.specs.declared.FreeCount.the-variants.{Buffers}
 use Rattle.machine.specs.Slots.{slotCount}
 use Rattle.machine.specs.Store.{bufferCount, buffersPerSlot, storeLength}
-use Rattle.machine.specs.Calls.{Call, submit, tick, collect, withdraw, callOf, submittedChecks, lastNumber, freeCountOf}
+use Rattle.machine.specs.Calls.{Call, submit, tick, collect, withdraw, submittedChecks, lastNumber, freeCountOf}
 use Rattle.machine.specs.History.{Event, Place, opened, next, eventOf, after, since, accepts, Submitted, kernelOfJob, aloneAfter, exactAfter, jobOf, held, ticksOf, stepsLeft, numbers, jobCount, heldCount, withdrawnIn, ticksIn}
 
 -- the answer of a call that gives this number where it is not refused

@@ -2,7 +2,7 @@
 -- only.
 use mathlib.Core.Bool.{Bool, true, false, cond, _&&_, _||_}
 use mathlib.Core.List.{List, [], _∷_, _++_}
-use Prim.Native.Nat.{ℕ, zero, suc, _+_, _-_}
+use Prim.Native.Nat.{ℕ, _+_, _-_}
 use lib.Dec.{eqb}
 use Rattle.covariance.specs.declared.Shape.{Shape}
 use Rattle.covariance.specs.Shapes.{covarianceXX, covarianceXY, covarianceYY}

@@ -1,6 +1,6 @@
 -- Signed numbers that are passed on, a slice of three entries that are each written, and a kernel's answer behind a check of the
 -- length. Assumes nothing.
-use mathlib.Core.Path.{_≡_, refl, sym, ap, _∙_}
+use mathlib.Core.Path.{_≡_, refl, ap, _∙_}
 use mathlib.Core.Bool.{true}
 use mathlib.Core.List.{List, [], _∷_}
 use Prim.Native.Nat.{ℕ}

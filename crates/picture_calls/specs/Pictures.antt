@@ -7,7 +7,7 @@ use lib.IntN.{ℤ}
 use lib.Ieee.{Float}
 use lib.ListN.{length}
 use Rattle.limits.specs.Limits.{stepsInRange}
-use Rattle.limits.specs.Errors.{Check, _otherwise_, firstRefusal, outcomeNumber}
+use Rattle.limits.specs.Errors.{_otherwise_, firstRefusal, outcomeNumber}
 use Rattle.limits.specs.declared.Outcome.{Outcome}
 use Rattle.limits.specs.declared.ErrorCode.the-variants.{VarianceOutOfRange, NotADirection, StepsOutOfRange, WrongLength, NoKernel}
 use Rattle.image.specs.declared.Reading.{Reading}

@@ -1,6 +1,6 @@
 -- Words within their fields, signed numbers and their two's complement, and slots read and written one by one. Assumes nothing.
 use mathlib.Core.Path.{_≡_, refl, sym, _∙_, ap}
-use mathlib.Core.Bool.{Bool, true, false, _&&_, true≢false}
+use mathlib.Core.Bool.{Bool, true, false, _&&_, cond, true≢false}
 use mathlib.Core.List.{List}
 use Prim.Native.Nat.{ℕ, zero, suc, _+_, _-_, _*_, _%_, _^_, _<_, _≤_}
 use native.Mathlib.Nat.{mul-add-mod-self-left, mod-eq-of-lt}
@@ -9,7 +9,7 @@ use native.Mathlib.Omega.{arith}
 use borrow.Author.Tests.{eqb-true, ltb-true, le-ltb, ne-eqb}
 use borrow.Author.Count.{below-more}
 use lib.Dec.{eqb, ltb}
-use lib.ListN.{length, getD, set, replicate, length-set}
+use lib.ListN.{length, getD, set, replicate}
 use lib.IntN.{ℤ, pos, negsuc, natAbs, _-ℤ_}
 use lib.Signed.{mag, ltZ}
 use mir.Syntax.{w32, w64}
@@ -20,7 +20,7 @@ use Rattle.machine.specs.declared.Slot.{Slot}
 use Rattle.machine.specs.declared.Service.{Service}
 use Rattle.machine.proofs.Parts.{length-put}
 use Rattle.machine.specs.Slots.{slotCount, slotAt, emptySlot}
-use Rattle.record_words.specs.Words.{wordCount, slotWords, wordPlace, wordAt, wordFits, wordsFit, fieldsFit, slotOf, slotsOf, wordsOfSlot, withSlot, withSlots}
+use Rattle.record_words.specs.Words.{wordCount, slotWords, wordPlace, wordAt, wordFits, wordsFit, fieldsFit, slotFits, slotOf, slotsOf, wordsOfSlot, withSlot, withSlots}
 
 -- ---- words within their fields
 pub fit-none : (words : List ℕ) → wordsFit words 0 ≡ true
@@ -37,6 +37,39 @@ fit-at words zero e k h = absurd (omega arith)
 fit-at words (suc n) e k h =
     let w = both-true (wordsFit words n) (wordFits n (getD words n 0)) e in
     below-more (λ (k : ℕ). wordFits k (getD words k 0) ≡ true) n (fit-at words n (w .0)) (w .1) k (omega arith)
+
+-- a test after others, one by one or joined first
+joined : (f a b c d e g h : Bool) → ((((((((f && true) && a) && b) && c) && d) && e) && g) && h) ≡ (f && (a && (b && (c && (d && (e && (g && h)))))))
+joined false a b c d e g h = refl
+joined true false b c d e g h = refl
+joined true true false c d e g h = refl
+joined true true true false d e g h = refl
+joined true true true true false e g h = refl
+joined true true true true true false g h = refl
+joined true true true true true true g h = refl
+
+joined-two : (f a b : Bool) → (((f && true) && a) && b) ≡ (f && (a && b))
+joined-two false a b = refl
+joined-two true a b = refl
+
+-- the words of one slot more, and the last three
+module _ (words : List ℕ) where
+  fit-next : (n j : ℕ) → wordsFit words (slotWords * n + (j + 1)) ≡ (wordsFit words (slotWords * n + j) && cond (eqb (j % slotWords) 0) true (ltb (wordAt words n j) (2 ^ 32)))
+  fit-next n j =
+      let e : slotWords * n + (j + 1) ≡ slotWords * n + j + 1 = omega arith in
+      rw e (fit-more words (slotWords * n + j) ∙ rw (mul-add-mod-self-left slotWords n j))
+
+  pub fit-slot : (n : ℕ) → wordsFit words (slotWords * (n + 1)) ≡ (wordsFit words (slotWords * n) && slotFits words n)
+  fit-slot n =
+      let e : slotWords * (n + 1) ≡ slotWords * n + 8 = omega arith in
+      let z : slotWords * n + 0 ≡ slotWords * n = omega arith in
+      rw (e, fit-next n 7, fit-next n 6, fit-next n 5, fit-next n 4, fit-next n 3, fit-next n 2, fit-next n 1, fit-next n 0, z)
+      (joined (wordsFit words (slotWords * n)) (ltb (wordAt words n 1) (2 ^ 32)) (ltb (wordAt words n 2) (2 ^ 32)) (ltb (wordAt words n 3) (2 ^ 32)) (ltb (wordAt words n 4) (2 ^ 32)) (ltb (wordAt words n 5) (2 ^ 32)) (ltb (wordAt words n 6) (2 ^ 32)) (ltb (wordAt words n 7) (2 ^ 32)))
+
+  pub fit-all : wordsFit words wordCount ≡ (wordsFit words (slotWords * slotCount) && (ltb (wordAt words slotCount 1) (2 ^ 32) && ltb (wordAt words slotCount 2) (2 ^ 32)))
+  fit-all =
+      rw (fit-next slotCount 2, fit-next slotCount 1, fit-next slotCount 0)
+      (joined-two (wordsFit words (slotWords * slotCount)) (ltb (wordAt words slotCount 1) (2 ^ 32)) (ltb (wordAt words slotCount 2) (2 ^ 32)))
 
 module _ (words : List ℕ) (fit : fieldsFit words ≡ true) where
   pub fit-length : length words ≡ wordCount

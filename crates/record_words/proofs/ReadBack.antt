@@ -11,14 +11,14 @@ use lib.Dec.{eqb, ltb}
 use lib.ListN.{length, getD}
 use lib.Seq.{getD-take, getD-drop}
 use mir.Syntax.{w32}
-use mir.Val.{SFits, toZ, ofZ}
+use mir.Val.{SFits, ofZ}
 use mir.ValLaws.{ofZ-fits}
 use Rattle.machine.proofs.Parts.{part-own, part-other, length-put}
 use Rattle.machine.specs.declared.Slot.{Slot}
 use Rattle.machine.specs.declared.Service.{Service}
 use Rattle.machine.specs.Slots.{slotCount, slotAt, emptySlot}
 use Rattle.machine.specs.Store.{part, put}
-use Rattle.record_words.specs.Words.{wordCount, slotWords, wordAt, wordFits, wordsFit, fieldsFit, slotOf, slotsOf, serviceOf, wordsOfSlot, withSlots, withService}
+use Rattle.record_words.specs.Words.{wordCount, slotWords, wordAt, wordFits, wordsFit, fieldsFit, slotOf, serviceOf, wordsOfSlot, withSlots, withService}
 use Rattle.record_words.proofs.Laws.{passes, slots-written-length}
 
 -- an entry of a part
@@ -60,11 +60,16 @@ module _ (r : Service) (words : List ℕ) (long : length words ≡ wordCount) wh
       part-own (slotWords * slotCount) 3 (r .last ∷ r .filled ∷ r .served ∷ []) (withSlots r slotCount words) refl (omega (arith, before))
 
   -- a word of a slot, and one of the last three
-  slot-word : (i f : ℕ) → i < slotCount → f < slotWords → wordAt (withService r words) i f ≡ getD (wordsOfSlot (slotAt r i)) f 0
+  pub slot-word : (i f : ℕ) → i < slotCount → f < slotWords → wordAt (withService r words) i f ≡ getD (wordsOfSlot (slotAt r i)) f 0
   slot-word i f h g = sym (part-at (slotWords * i) slotWords f (withService r words) g) ∙ ap (λ (l : List ℕ). getD l f 0) (slot-words i h)
 
-  last-word : (f : ℕ) → f < 3 → wordAt (withService r words) slotCount f ≡ getD (r .last ∷ r .filled ∷ r .served ∷ []) f 0
+  pub last-word : (f : ℕ) → f < 3 → wordAt (withService r words) slotCount f ≡ getD (r .last ∷ r .filled ∷ r .served ∷ []) f 0
   last-word f g = sym (part-at (slotWords * slotCount) 3 f (withService r words) g) ∙ ap (λ (l : List ℕ). getD l f 0) last-words
+
+  pub long-after : length (withService r words) ≡ wordCount
+  long-after =
+      let before = room slotCount (omega arith) in
+      length-put (slotWords * slotCount) (r .last ∷ r .filled ∷ r .served ∷ []) (withSlots r slotCount words) (omega (arith, before)) ∙ before
 
 -- numbers within the fields of a slot: what a record in the code always has
 pub record SlotFits (s : Slot) : Type 0 where
@@ -201,12 +206,7 @@ module _ (r : Service) (words : List ℕ) (long : length words ≡ wordCount) (f
       let e : slotWords * (k / slotWords) + k % slotWords ≡ k = omega (arith, div-add-mod' k slotWords) in
       subst (λ (j : ℕ). wordFits j (getD (withService r words) j 0) ≡ true) e (placed (k / slotWords) (k % slotWords) field (omega arith))
 
-  long-after : length (withService r words) ≡ wordCount
-  long-after =
-      let before = room r words long slotCount (omega arith) in
-      length-put (slotWords * slotCount) (r .last ∷ r .filled ∷ r .served ∷ []) (withSlots r slotCount words) (omega (arith, before)) ∙ before
-
   -- WHAT IS WRITTEN HOLDS A RECORD
   pub written-fits : fieldsFit (withService r words) ≡ true
   unfolding fieldsFit
-  written-fits = rw (eq-eqb (length (withService r words)) wordCount long-after, all-fit (withService r words) wordCount each)
+  written-fits = rw (eq-eqb (length (withService r words)) wordCount (long-after r words long), all-fit (withService r words) wordCount each)

@@ -5,7 +5,7 @@ use mathlib.Core.Bool.{Bool, true, _&&_, cond}
 use mathlib.Core.List.{List, [], _∷_}
 use Prim.Native.Nat.{ℕ, zero, suc, _+_, _*_, _%_, _^_}
 use lib.Dec.{eqb, ltb}
-use lib.ListN.{length, getD}
+use lib.ListN.{length, getD, set}
 use mir.Syntax.{w32}
 use mir.Val.{toZ, ofZ}
 use Rattle.machine.specs.declared.Slot.{Slot}
@@ -39,6 +39,17 @@ wordPlace place field = slotWords * place + field
 
 abbrev pub wordAt : List ℕ → ℕ → ℕ → ℕ
 wordAt words place field = getD words (wordPlace place field) 0
+
+-- whether the words of a slot are within their fields: all but the job number have 32 bits
+abbrev pub slotFits : List ℕ → ℕ → Bool
+slotFits words place =
+    ltb (wordAt words place 1) (2 ^ 32)
+    && (ltb (wordAt words place 2) (2 ^ 32)
+    && (ltb (wordAt words place 3) (2 ^ 32)
+    && (ltb (wordAt words place 4) (2 ^ 32)
+    && (ltb (wordAt words place 5) (2 ^ 32)
+    && (ltb (wordAt words place 6) (2 ^ 32)
+    && ltb (wordAt words place 7) (2 ^ 32))))))
 
 unfoldable pub slotOf : List ℕ → ℕ → Slot
 slotOf words place =
@@ -96,3 +107,7 @@ withSlots r (suc n) words = withSlot n (slotAt r n) (withSlots r n words)
 abbrev pub withService : Service → List ℕ → List ℕ
 withService r words =
     put (slotWords * slotCount) (r .last ∷ r .filled ∷ r .served ∷ []) (withSlots r slotCount words)
+
+-- with what a tick changes written: the steps left of the slot that was served, and the slot last served
+abbrev pub withTurn : ℕ → ℕ → List ℕ → List ℕ
+withTurn place left words = set (set words (wordPlace place 5) left) (wordPlace slotCount 2) place

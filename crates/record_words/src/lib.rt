@@ -2,13 +2,14 @@
 // reading and writing ask that the words hold a record and that there are 67 of them.
 ghost use mathlib.Core.Path.{_≡_};
 ghost use mathlib.Core.Bool.{_&&_, true};
-ghost use Prim.Native.Nat.{_+_, _<_, _≤_};
-ghost use lib.ListN.{length};
+ghost use Prim.Native.Nat.{_+_, _^_, _<_, _≤_};
+ghost use lib.Dec.{ltb};
+ghost use lib.ListN.{length, getD};
 ghost use mir.Syntax.{w32};
 ghost use mir.Val.{toZ, ofZ};
 ghost use Rattle.machine.specs.Slots.{slotCount};
 ghost use Rattle.machine.specs.Store.{put};
-ghost use Rattle.record_words.specs.Words.{wordCount, slotWords, wordPlace, wordAt, wordFits, fieldsFit, slotOf, serviceOf, wordsOfSlot, withSlot, withSlots, withService};
+ghost use Rattle.record_words.specs.Words.{wordCount, slotWords, wordPlace, wordAt, slotFits, fieldsFit, slotOf, serviceOf, wordsOfSlot, withSlot, withSlots, withService, withTurn};
 use machine::Service;
 use machine::Slot;
 
@@ -18,11 +19,34 @@ fn both(a: bool, b: bool) -> bool
     if a { b } else { false }
 }
 
-// Whether a word is within its field: 64 bits at the multiples of 8, else 32.
-fn word_fits(i: usize, word: u64) -> bool
-    ensures { λ r. ⌜ r ≡ wordFits i word ⌝ }
+// Whether a word is within 32 bits.
+fn narrow(words: &[u64], at: usize) -> bool
+    requires { ⌜ at < length (now words) ⌝ }
+    ensures { λ r. ⌜ r ≡ ltb (getD (now (words .entry)) at 0) (2 ^ 32) ⌝ }
 {
-    if i % 8 == 0 { true } else { word < 4294967296 }
+    words[at] < 4294967296
+}
+
+// Whether the words of a slot are within their fields. The first is a job number and always is.
+fn slot_fits(words: &[u64], place: usize) -> bool
+    requires { ⌜ (length (now words) ≡ wordCount) × (place < slotCount) ⌝ }
+    ensures { λ r. ⌜ r ≡ slotFits (now (words .entry)) place ⌝ }
+{
+    let first = 8 * place;
+    let sizes = both(
+        narrow(words, first + 4),
+        both(
+            narrow(words, first + 5),
+            both(narrow(words, first + 6), narrow(words, first + 7)),
+        ),
+    );
+    both(
+        narrow(words, first + 1),
+        both(
+            narrow(words, first + 2),
+            both(narrow(words, first + 3), sizes),
+        ),
+    )
 }
 
 // Whether the words hold a record, in order or not.
@@ -34,11 +58,11 @@ pub fn fields_fit(words: &[u64]) -> bool
     }
     let mut fine = true;
     let mut i = 0usize;
-    while i < 67 {
-        fine = both(fine, word_fits(i, words[i]));
+    while i < 8 {
+        fine = both(fine, slot_fits(words, i));
         i += 1;
     }
-    fine
+    both(fine, both(narrow(words, 65), narrow(words, 66)))
 }
 
 // A number of 32 bits as its two's complement.
@@ -184,4 +208,13 @@ pub fn write_service(words: &mut [u64], service: Service)
     write_slots(words, service);
     let rest = [service.last, wide(service.filled), wide(service.served)];
     put_words(words, 64, &rest);
+}
+
+// The words after a tick, of which two change: the steps left of the slot that was served, and the slot last served.
+pub fn write_turn(words: &mut [u64], place: usize, left: u32)
+    requires { ⌜ (length (now words) ≡ wordCount) × (place < slotCount) ⌝ }
+    ensures { λ _. ⌜ now (words .exit) ≡ withTurn place left (now (words .entry)) ⌝ }
+{
+    words[8 * place + 5] = wide(left);
+    words[66] = place as u64;
 }

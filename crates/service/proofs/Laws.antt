@@ -1,9 +1,9 @@
 -- The state machine's calls, one test at a time: what each is where the record is usable and a slot was or was not found, and
 -- what the answer for a shape says. Assumes nothing.
-use mathlib.Core.Path.{_≡_, refl, sym, _∙_, ap}
+use mathlib.Core.Path.{_≡_, refl}
 use mathlib.Core.Bool.{Bool, true, false, _&&_}
 use mathlib.Core.List.{List, [], _∷_}
-use Prim.Native.Nat.{ℕ, _+_, _<_, _≤_}
+use Prim.Native.Nat.{ℕ, _+_}
 use native.Mathlib.Omega.{arith}
 use borrow.Author.Tests.{eqb-true}
 use lib.Dec.{eqb}
@@ -21,13 +21,15 @@ use Rattle.covariance.specs.Shapes.{variancesFine, directionFine, covarianceXX,
 use Rattle.covariance.specs.Answer.{covarianceWith, covarianceAnswer, shapeChecks}
 use Rattle.machine.specs.declared.Service.{Service}
 use Rattle.machine.specs.declared.Slot.{Slot}
-use Rattle.machine.specs.declared.Answer.the-variants.{Job, Idle, Refused}
+use Rattle.machine.specs.declared.Answer.{Answer}
+use Rattle.machine.specs.declared.Answer.the-variants.{Refused}
 use Rattle.machine.specs.declared.Found.{Found}
 use Rattle.machine.specs.declared.Found.the-variants.{At, Nothing}
 use Rattle.machine.specs.Store.{storeLength}
 use Rattle.machine.specs.Order.{inOrder, usable}
 use Rattle.machine.specs.Calls.{Result, jobChecks, roomChecks, submitChecks, submitAt, submitOf, emptyPlace, newSlot, tickAt, tickOf, servedPlace, placeOf, collectChecks, collectOf, unlessRefused}
-use Rattle.service.specs.Called.{fillAt, handOver}
+use Rattle.service.specs.declared.Turn.{Turn}
+use Rattle.service.specs.Called.{calledOf, fillAt, handOver, afterTurn, TurnOf}
 
 pub usable-parts : (r : Service) (store : List ℕ) → (inOrder r && eqb (length store) storeLength) ≡ true → (inOrder r ≡ true) × (length store ≡ storeLength)
 usable-parts r store e =
@@ -87,6 +89,11 @@ module _ (r : Service) (store : List ℕ) (good : (inOrder r && eqb (length stor
       → submitOf r store shape k w h pixels ≡ unlessRefused o r store pixels (submitAt r store shape k w h pixels (emptyPlace r))
   unfolding submitOf submitChecks usable
   submit-checked shape k w h pixels o fine e = rw (good, fine .0, fine .1, e)
+
+-- a tick by its turn: the answer, and the record with what changed in it
+pub turn-called : (r : Service) (t : Turn) (ticked : Result) → TurnOf r t ticked → (answer : Answer) → t .answer ≡ answer
+    → record { answer = answer; service = afterTurn answer r (t .place) (t .left) } ≡ calledOf ticked
+turn-called r t ticked is answer e = rw (← e, is .service-is, is .answer-is)
 
 -- ---- the answer for a shape
 pub record ShapeIs (shape : Shape) (xx xy yy : ℤ) : Type 0 where

@@ -1,21 +1,22 @@
 -- What the running calls and their parts hand back, in terms of the state machine. Definitions only.
 use mathlib.Core.Path.{_≡_}
-use mathlib.Core.Bool.{true}
 use mathlib.Core.List.{List}
-use Prim.Native.Nat.{ℕ, _≤_, _<_}
+use Prim.Native.Nat.{ℕ, _<_}
 use lib.ListN.{length, set}
 use Rattle.limits.specs.Errors.{firstRefusal}
 use Rattle.limits.specs.declared.ErrorCode.the-variants.{NoFreeBuffers}
 use Rattle.machine.specs.declared.Slot.{Slot}
 use Rattle.machine.specs.declared.Service.{Service}
-use Rattle.machine.specs.declared.Answer.the-variants.{Job, Refused}
+use Rattle.machine.specs.declared.Answer.{Answer}
+use Rattle.machine.specs.declared.Answer.the-variants.{Job, Idle, Refused}
 use Rattle.machine.specs.declared.Found.{Found}
 use Rattle.machine.specs.declared.Found.the-variants.{At, Nothing}
 use Rattle.machine.specs.Slots.{slotCount, slotAt}
 use Rattle.machine.specs.Store.{storeLength, put, bufferAfter}
-use Rattle.machine.specs.Calls.{Result, handOverChecks, unlessRefused, collectAt}
+use Rattle.machine.specs.Calls.{Result, turnedAt, handOverChecks, unlessRefused, collectAt}
 use Rattle.machine.specs.Order.{Filled}
 use Rattle.service.specs.declared.Called as C
+use Rattle.service.specs.declared.Turn as T
 
 -- the answer and the record of a call
 abbrev pub calledOf : Result → C.Called
@@ -44,3 +45,15 @@ pub record Ready (n : ℕ) (s : Slot) (i : ℕ) : Type 0 where
   pub left : 0 < s .left
   pub last : ℕ
   pub filled : Filled last s
+
+-- the record after a tick that answered so: with no step it stays
+abbrev pub afterTurn : Answer → Service → ℕ → ℕ → Service
+afterTurn (Job n) r i left = turnedAt r i left
+afterTurn Idle r i left = r
+afterTurn (Refused code) r i left = r
+
+-- that a turn is what a tick answers and changes in the record
+pub record TurnOf (r : Service) (t : T.Turn) (ticked : Result) : Type 0 where
+  pub answer-is : t .answer ≡ ticked .answer
+  pub service-is : afterTurn (t .answer) r (t .place) (t .left) ≡ ticked .service
+  pub within : t .place < slotCount

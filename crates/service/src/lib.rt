@@ -3,20 +3,17 @@
 // which demand 3 is proved. Whatever record comes in is in order or refused with 2: no field of it is trusted before.
 ghost use mathlib.Core.Path.{_≡_};
 ghost use mathlib.Core.Bool.{_&&_, true};
-ghost use mathlib.Core.List.{List, [], _∷_};
+ghost use mathlib.Core.List.{List};
 ghost use Prim.Native.Nat.{ℕ, _+_, _*_, _<_, _≤_};
-ghost use lib.Dec.{eqb, leb, ltb};
+ghost use lib.Dec.{eqb};
 ghost use lib.ListN.{length};
-ghost use Rattle.limits.specs.Limits.{stepsInRange, sidesInRange, fillsPicture, fitsBuffer, bufferPixels};
-ghost use Rattle.limits.specs.Errors.{_otherwise_, firstRefusal};
-ghost use Rattle.kernel.specs.Molecule.{unitsOf};
-ghost use Rattle.kernel.specs.Existence.{kernelExists};
-ghost use Rattle.covariance.specs.Shapes.{covarianceXX, covarianceXY, covarianceYY};
+ghost use Rattle.limits.specs.Limits.{fitsBuffer, bufferPixels};
+ghost use Rattle.limits.specs.Errors.{firstRefusal};
 ghost use Rattle.machine.specs.Slots.{slotCount, slotAt, opening as openingOf};
 ghost use Rattle.machine.specs.Store.{storeLength, bufferAfter, put, stepsDone};
-ghost use Rattle.machine.specs.Order.{inOrder, usable as usableOf};
-ghost use Rattle.machine.specs.Calls.{tickAt, submitOf, tickOf, collectOf, withdrawOf, freeCountOf, emptyPlace, placeOf, emptied as emptiedOf, freeBuffers, jobChecks, roomChecks, nextImage};
-ghost use Rattle.service.specs.Called.{calledOf, fillAt, handOver, Ready};
+ghost use Rattle.machine.specs.Order.{inOrder};
+ghost use Rattle.machine.specs.Calls.{turnedAt, submitOf, tickOf, collectOf, withdrawOf, freeCountOf, emptyPlace, placeOf, emptied as emptiedOf, freeBuffers, jobChecks, roomChecks, nextImage};
+ghost use Rattle.service.specs.Called.{calledOf, fillAt, handOver, Ready, TurnOf};
 use covariance::Covariance;
 use covariance::Shape;
 use limits::ErrorCode;
@@ -243,14 +240,55 @@ fn step_slot(store: &mut [u16], slot: Slot, place: usize)
     );
 }
 
-// The record after one step of the job in a slot.
-fn stepped(service: Service, place: usize) -> Service
-    requires { ⌜ (place < slotCount) × (0 < slotAt service place .left) ⌝ }
-    ensures { λ r. ⌜ ((store : List ℕ) → r ≡ tickAt service store (Found.At place) .service) ⌝ }
+// The answer of a tick with what it changed in the record: the steps left of the slot that was served. Where there was no step
+// the answer alone counts.
+pub struct Turn {
+    pub answer: Answer,
+    pub place: usize,
+    pub left: u32,
+}
+
+fn no_turn(answer: Answer) -> Turn
+    ensures { λ r. ⌜ r ≡ record { answer = answer; place = 0; left = 0 } ⌝ }
+{
+    Turn {
+        answer,
+        place: 0,
+        left: 0,
+    }
+}
+
+// A tick without the record after it: one step of the picture of the slot whose turn it is.
+pub fn take_turn(service: Service, store: &mut [u16]) -> Turn
+    ensures { λ r. ⌜ TurnOf service r (tickOf service (now (store .entry))) ⌝ }
+    ensures { λ _. ⌜ now (store .exit) ≡ tickOf service (now (store .entry)) .store ⌝ }
+{
+    if !usable(service, store.len()) {
+        return no_turn(Answer::Refused(ErrorCode::RecordOutOfOrder));
+    }
+    let start = slots::next_place(service.served as usize);
+    match slots::find(service, Sought::WithStepsLeft, start) {
+        Found::At(place) => {
+            let slot = service.slots[place];
+            step_slot(store, slot, place);
+            Turn {
+                answer: Answer::Job(slot.number),
+                place,
+                left: slot.left - 1,
+            }
+        }
+        Found::Nothing => no_turn(Answer::Idle),
+    }
+}
+
+// The record with the steps left of a slot replaced, which is then the slot last served.
+fn turned(service: Service, place: usize, left: u32) -> Service
+    requires { ⌜ place < slotCount ⌝ }
+    ensures { λ r. ⌜ r ≡ turnedAt service place left ⌝ }
 {
     let mut next = service;
     let mut slot = next.slots[place];
-    slot.left -= 1;
+    slot.left = left;
     next.slots[place] = slot;
     next.served = place as u32;
     next
@@ -259,23 +297,18 @@ fn stepped(service: Service, place: usize) -> Service
 pub fn tick(service: Service, store: &mut [u16]) -> Called
     ensures { λ r. ⌜ (r ≡ calledOf (tickOf service (now (store .entry)))) × (now (store .exit) ≡ tickOf service (now (store .entry)) .store) ⌝ }
 {
-    if !usable(service, store.len()) {
-        return refused(service, ErrorCode::RecordOutOfOrder);
-    }
-    let start = slots::next_place(service.served as usize);
-    match slots::find(service, Sought::WithStepsLeft, start) {
-        Found::At(place) => {
-            let slot = service.slots[place];
-            step_slot(store, slot, place);
-            Called {
-                answer: Answer::Job(slot.number),
-                service: stepped(service, place),
-            }
-        }
-        Found::Nothing => Called {
+    let turn = take_turn(service, store);
+    let answer = turn.answer;
+    match answer {
+        Answer::Job(number) => Called {
+            answer: Answer::Job(number),
+            service: turned(service, turn.place, turn.left),
+        },
+        Answer::Idle => Called {
             answer: Answer::Idle,
             service,
         },
+        Answer::Refused(code) => refused(service, code),
     }
 }
 

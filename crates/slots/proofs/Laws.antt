@@ -5,7 +5,7 @@ use mathlib.Core.List.{List}
 use Prim.Native.Nat.{ℕ, zero, suc, _+_, _-_, _^_, _<_, _≤_}
 use native.Mathlib.Numerals.{add-one, sub-one}
 use native.Mathlib.Omega.{arith}
-use borrow.Author.Tests.{eq-eqb, ne-eqb}
+use borrow.Author.Tests.{ne-eqb}
 use lib.Dec.{eqb}
 use lib.ListN.{getD}
 use lib.IntN.{ℤ, pos, negsuc}
@@ -21,13 +21,11 @@ use Rattle.limits.specs.declared.Outcome.the-variants.{Accepted, Refused}
 use Rattle.kernel.specs.Molecule.{unitsOf, kernelOf}
 use Rattle.kernel.specs.Existence.{kernelExists}
 use Rattle.kernel.specs.Answer.{answerWith, kernelAnswer}
-use Rattle.machine.proofs.Checks.{refused-not-accepted}
+use Rattle.limits.proofs.Checks.{refused-not-accepted}
 use Rattle.machine.specs.declared.Slot.{Slot}
-use Rattle.machine.specs.declared.Service.{Service}
 use Rattle.machine.specs.declared.Found.the-variants.{At, Nothing}
-use Rattle.machine.specs.Slots.{emptySlot, nextPlace, firstFrom, countOf, everySlot}
-use Rattle.machine.specs.Order.{isZero, slotFine}
-use Rattle.slots.specs.Numbers.{numbersOf, occurrencesOf, slotFineAmong}
+use Rattle.machine.specs.Slots.{emptySlot, nextPlace, firstFrom, countOf}
+use Rattle.machine.specs.Order.{isZero}
 
 module _ (test : Slot → Bool) (slots : List Slot) where
   pub first-hit : (size place n : ℕ) → 0 < n → test (getD slots place emptySlot) ≡ true → firstFrom test slots size place n ≡ At place
@@ -57,33 +55,6 @@ module _ (test : Slot → Bool) (slots : List Slot) where
   pub count-miss : (n : ℕ) → test (getD slots n emptySlot) ≡ false → countOf test slots (n + 1) ≡ countOf test slots n
   unfolding countOf
   count-miss n e = rw (add-one n, e)
-
-  pub every-none : everySlot test slots 0 ≡ true
-  unfolding everySlot
-  every-none = refl
-
-  pub every-more : (n : ℕ) → everySlot test slots (n + 1) ≡ (everySlot test slots n && test (getD slots n emptySlot))
-  unfolding everySlot
-  every-more n = rw (add-one n)
-
--- ---- the numbers by themselves
-module _ (numbers : List ℕ) (number : ℕ) where
-  pub occurs-none : occurrencesOf numbers number 0 ≡ 0
-  unfolding occurrencesOf
-  occurs-none = refl
-
-  pub occurs-hit : (n : ℕ) → getD numbers n 0 ≡ number → occurrencesOf numbers number (n + 1) ≡ occurrencesOf numbers number n + 1
-  unfolding occurrencesOf
-  occurs-hit n e = rw (add-one n, eq-eqb (getD numbers n 0) number e)
-
-  pub occurs-miss : (n : ℕ) → (getD numbers n 0 ≡ number → ⊥) → occurrencesOf numbers number (n + 1) ≡ occurrencesOf numbers number n
-  unfolding occurrencesOf
-  occurs-miss n e = rw (add-one n, ne-eqb (getD numbers n 0) number e)
-
--- the test of a slot among the numbers is the machine's
-pub fine-among : (r : Service) (s : Slot) → slotFineAmong (r .last) (numbersOf (r .slots)) s ≡ slotFine r s
-unfolding slotFineAmong slotFine occurrencesOf countOf
-fine-among r s = refl
 
 -- a signed field, as a call is handed it
 pub passed-on : (z : ℤ) → mag z < 2 ^ 31 → toZ w32 (ofZ w32 z) ≡ z

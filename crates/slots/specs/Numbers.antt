@@ -1,11 +1,11 @@
--- The numbers of the eight slots by themselves, and the test of a slot among them. Definitions only.
+-- The numbers of the eight slots by themselves, and the test of a slot after the earlier ones. Definitions only.
 use mathlib.Core.Bool.{Bool, cond, _&&_}
 use mathlib.Core.List.{List, [], _∷_}
 use Prim.Native.Nat.{ℕ, zero, suc, _+_}
 use lib.Dec.{eqb}
 use lib.ListN.{getD}
 use Rattle.machine.specs.declared.Slot.{Slot}
-use Rattle.machine.specs.Slots.{slotCount, emptySlot, isEmpty}
+use Rattle.machine.specs.Slots.{emptySlot, isEmpty}
 use Rattle.machine.specs.Order.{allZero, filledFine}
 
 abbrev pub numberAt : List Slot → ℕ → ℕ
@@ -29,7 +29,7 @@ occurrencesOf numbers number zero = 0
 occurrencesOf numbers number (suc n) =
     cond (eqb (getD numbers n 0) number) (occurrencesOf numbers number n + 1) (occurrencesOf numbers number n)
 
--- the machine's `slotFine`, of the last number given and the numbers of all slots
-unfoldable pub slotFineAmong : ℕ → List ℕ → Slot → Bool
-slotFineAmong last numbers s =
-    cond (isEmpty s) (allZero s) (filledFine last s && eqb (occurrencesOf numbers (s .number) slotCount) 1)
+-- the test of the slot at a place: the number of a filled one is none of the numbers before
+unfoldable pub slotFineAfter : ℕ → List ℕ → ℕ → Slot → Bool
+slotFineAfter last numbers place s =
+    cond (isEmpty s) (allZero s) (filledFine last s && eqb (occurrencesOf numbers (s .number) place) 0)

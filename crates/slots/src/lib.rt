@@ -1,15 +1,16 @@
 // The slots of the service record in code: the opening, one search and one count for all calls, and the check that a record
 // is in order. Records go by value; no field of one that comes in is trusted. An inner crate: `find` asks where to start.
 ghost use mathlib.Core.Path.{_≡_};
-ghost use mathlib.Core.Bool.{_&&_, cond};
-ghost use Prim.Native.Nat.{_≤_, _<_};
+ghost use mathlib.Core.Bool.{_&&_};
+ghost use Prim.Native.Nat.{_<_, _≤_};
+ghost use lib.Dec.{eqb};
 ghost use Rattle.kernel.specs.Molecule.{unitsOf};
 ghost use Rattle.kernel.specs.Existence.{kernelExists};
 ghost use Rattle.limits.specs.Limits.{stepsInRange};
 ghost use Rattle.machine.specs.Slots.{slotCount, emptySlot, nextPlace, firstFrom, countOf, opening as openingOf};
 ghost use Rattle.machine.specs.Order.{isZero, allZero, filledFine, inOrder as inOrderOf};
 ghost use Rattle.slots.specs.Sought.{testOf};
-ghost use Rattle.slots.specs.Numbers.{numbersOf, occurrencesOf, slotFineAmong};
+ghost use Rattle.slots.specs.Numbers.{numbersOf, occurrencesOf, slotFineAfter};
 use limits::Outcome;
 use machine::Found;
 use machine::Service;
@@ -177,30 +178,30 @@ fn numbers_of(service: Service) -> [u64; 8]
     ]
 }
 
-fn occurrences(numbers: [u64; 8], number: u64) -> u32
-    ensures { λ r. ⌜ r ≡ occurrencesOf numbers number slotCount ⌝ }
+// Whether a number is none of the first ones.
+fn is_new(numbers: [u64; 8], number: u64, places: usize) -> bool
+    requires { ⌜ places ≤ slotCount ⌝ }
+    ensures { λ r. ⌜ r ≡ eqb (occurrencesOf numbers number places) 0 ⌝ }
 {
-    let mut count = 0u32;
-    let mut i = 0usize;
-    while i < 8 {
-        if numbers[i] == number {
-            count += 1;
+    let mut more = places;
+    while 0 < more {
+        more -= 1;
+        if numbers[more] == number {
+            return false;
         }
-        i += 1;
     }
-    count
+    true
 }
 
-fn slot_fine(last: u64, numbers: [u64; 8], slot: Slot) -> bool
-    ensures { λ r. ⌜ r ≡ slotFineAmong last numbers slot ⌝ }
+// A number that no slot shares with an earlier one is shared with none.
+fn slot_fine(last: u64, numbers: [u64; 8], place: usize, slot: Slot) -> bool
+    requires { ⌜ place < slotCount ⌝ }
+    ensures { λ r. ⌜ r ≡ slotFineAfter last numbers place slot ⌝ }
 {
     if slot.number == 0 {
         return all_zero(slot);
     }
-    both(
-        filled_fine(last, slot),
-        occurrences(numbers, slot.number) == 1,
-    )
+    both(filled_fine(last, slot), is_new(numbers, slot.number, place))
 }
 
 // The test of refusal 2 for a record: it reads no pixel.
@@ -212,7 +213,7 @@ pub fn in_order(service: Service) -> bool
     let mut i = 0usize;
     while i < 8 {
         let slot = service.slots[i];
-        fine = both(fine, slot_fine(service.last, numbers, slot));
+        fine = both(fine, slot_fine(service.last, numbers, i, slot));
         i += 1;
     }
     both(fine, both(service.filled < 8, service.served < 8))

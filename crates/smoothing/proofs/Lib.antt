@@ -1,5 +1,4 @@
--- Laws about checks and runs, apart from the functions' own proofs.
-pub mod Checks
+-- Laws about runs, apart from the functions' own proofs.
 pub mod Steps
 pub mod Runs
 pub mod Theorems

@@ -22,10 +22,11 @@ use Rattle.covariance.specs.declared.Covariance.{Covariance}
 use Rattle.covariance.specs.Shapes.{covarianceXX, covarianceXY, covarianceYY}
 use Rattle.covariance.specs.Answer.{covarianceAnswer}
 use Rattle.covariance.proofs.Answers.{Passed, stopped, kernel-passed}
-use Rattle.stepping.specs.Step.{StepKernel, Filled}
+use Rattle.row_core.specs.Prepared.{StepKernel}
+use Rattle.stepping.specs.Step.{Filled}
 use Rattle.smoothing.specs.Runs.{runChecks, kernelOfShape, runWith}
 use Rattle.smoothing.specs.Shown.{shownChecks}
-use Rattle.smoothing.proofs.Checks.{refused-not-accepted, all-hold, in-turn}
+use Rattle.limits.proofs.Checks.{refused-not-accepted, all-hold, in-turn}
 
 -- ---- the pictures
 module _ (k w h n m : ℕ) (accepted : firstRefusal (shownChecks k w h n m) ≡ Accepted) where

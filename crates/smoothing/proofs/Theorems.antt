@@ -25,7 +25,7 @@ use Rattle.averaging.proofs.Distance.{distance}
 use Rattle.stepping.specs.Step.{Filled}
 use Rattle.smoothing.specs.Runs.{runChecks, kernelOfShape, isEven, stepsInFirst, stepsInSecond, runWith, runOf}
 use Rattle.smoothing.specs.Shown.{shownChecks, shownOf}
-use Rattle.smoothing.proofs.Checks.{all-hold}
+use Rattle.limits.proofs.Checks.{all-hold}
 use Rattle.smoothing.proofs.Runs.{filled, kernel-sound}
 
 -- what the reader is shown after a run

@@ -4,14 +4,14 @@ use mathlib.Core.Logic.{inl, inr}
 use mathlib.Core.List.{List, _++_, append-assoc}
 use Prim.Native.Nat.{ℕ, _+_, _-_, _≤_, _<_}
 use native.Mathlib.Nat.{add-sub-cancel-left}
+use native.Mathlib.Numerals.{add-one}
 use native.Mathlib.Omega.{arith}
-use lib.ListN.{length, getD, take, drop, length-drop, List·getD-append}
-use lib.Seq.{paste, length-paste, length-paste-head, length-take-le, take-all, take-at, drop-at, drop-drop, getD-take, getD-drop, getD-append-add, ext-getD}
-use Rattle.stepping.specs.Buffers.{part, Apart}
-
--- a part of n elements has n of them
-pub length-part : (i n : ℕ) (l : List ℕ) → i + n ≤ length l → length (part i n l) ≡ n
-length-part i n l h = length-take-le n (drop i l) (rw length-drop (omega arith))
+use lib.ListN.{length, getD, take, drop, List·getD-append}
+use lib.Seq.{paste, length-paste, length-paste-head, length-take-le, take-all, take-at, take-paste, drop-at, drop-drop, getD-take, getD-drop, getD-append-add, ext-getD}
+use Rattle.image.specs.Image.{rows}
+use Rattle.row_core.specs.Rows.{part}
+use Rattle.row_core.proofs.Rows.{length-part}
+use Rattle.stepping.specs.Buffers.{Apart}
 
 part-at : (i n : ℕ) (l : List ℕ) (t : ℕ) → t < n → getD (part i n l) t 0 ≡ getD l (i + t) 0
 part-at i n l t h = getD-take n (drop i l) t 0 h ∙ getD-drop i l t 0
@@ -19,6 +19,12 @@ part-at i n l t h = getD-take n (drop i l) t 0 h ∙ getD-drop i l t 0
 -- what comes back from j to j + n of a list
 pub placed : (j n : ℕ) (d : List ℕ) {l r : List ℕ} → l ≡ r → length r ≡ n → take j d ++ (l ++ drop (j + n - j) (drop j d)) ≡ paste d j r n
 placed j n d {l} {r} e h = rw (e, add-sub-cancel-left j n, drop-drop n j d, take-all n r (omega arith)) (sym (append-assoc (take j d) r (drop (j + n) d)))
+
+-- one more row is pasted behind n rows
+pub store-row : (n j w : ℕ) (f : ℕ → List ℕ) (d : List ℕ) {o row : List ℕ} → j ≤ length d → length row ≡ w → take j d ≡ rows n f → row ≡ f n
+    → o ≡ paste d j row w → take (j + w) o ≡ rows (n + 1) f
+unfolding rows
+store-row n j w f d {o} {row} lj lw done er eo = rw (eo, take-paste d j row w lj (omega arith), take-all w row (omega arith), add-one, done, er)
 
 pub apart-sym : (n i j : ℕ) → Apart n i j → Apart n j i
 apart-sym n i j (inl h) = inr h

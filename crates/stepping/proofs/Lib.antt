@@ -1,7 +1,3 @@
--- The laws that the proofs share, and those that a caller of the row core cites.
-pub mod Division
-pub mod Averages
+-- The laws that the proofs share.
 pub mod Buffers
-pub mod Pixels
-pub mod Rows
 pub mod Windows

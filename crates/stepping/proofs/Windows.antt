@@ -6,11 +6,11 @@ use Prim.Native.Nat.{ℕ, _+_, _≤_}
 use native.Mathlib.Omega.{arith}
 use lib.ListN.{length}
 use lib.Seq.{paste, length-paste}
-use Rattle.stepping.specs.Rows.{paddedOf, AllPixels}
-use Rattle.stepping.specs.Buffers.{part, Inside, Slots, Loaded}
+use Rattle.row_core.specs.Rows.{paddedOf, AllPixels, part}
+use Rattle.row_core.proofs.Rows.{length-part, length-padded}
+use Rattle.stepping.specs.Buffers.{Inside, Slots, Loaded}
 use Rattle.stepping.specs.declared.Window.{Window}
-use Rattle.stepping.proofs.Buffers.{length-part, part-written, part-kept, apart-sym}
-use Rattle.stepping.proofs.Rows.{length-padded}
+use Rattle.stepping.proofs.Buffers.{part-written, part-kept, apart-sym}
 
 -- a window of lines of pixels, and a row that fits
 pub inside : (l : List ℕ) (v : Window) (m i w : ℕ) → v .above + (w + 2) ≤ length l → v .at + (w + 2) ≤ length l → v .below + (w + 2) ≤ length l

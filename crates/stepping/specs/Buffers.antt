@@ -3,27 +3,14 @@ use mathlib.Core.Path.{_≡_}
 use mathlib.Core.Logic.{_⊎_}
 use mathlib.Core.List.{List}
 use Prim.Native.Nat.{ℕ, _+_, _≤_}
-use lib.ListN.{length, take, drop}
+use lib.ListN.{length}
 use Rattle.kernel.specs.declared.Kernel.{Kernel}
-use Rattle.stepping.specs.Rows.{paddedOf, rowOf, AllPixels}
+use Rattle.row_core.specs.Rows.{part, paddedOf, rowOf, AllPixels, Lines}
 use Rattle.stepping.specs.declared.Window.{Window}
-
--- n elements from i on
-abbrev pub part : ℕ → ℕ → List ℕ → List ℕ
-part i n l = take n (drop i l)
 
 -- the row of w pixels that a step makes from the lines of a window
 abbrev pub rowFrom : Kernel → ℕ → Window → List ℕ → List ℕ
 rowFrom k w v lines = rowOf k w (part (v .above) (w + 2) lines) (part (v .at) (w + 2) lines) (part (v .below) (w + 2) lines)
-
--- three lines for a row of w pixels
-pub record Lines (a b c : List ℕ) (w : ℕ) : Type 0 where
-  pub up : length a ≡ w + 2
-  pub mid : length b ≡ w + 2
-  pub down : length c ≡ w + 2
-  pub up-pixels : AllPixels a
-  pub mid-pixels : AllPixels b
-  pub down-pixels : AllPixels c
 
 -- a row of w pixels at i of n pixels, and a line for it at j of m
 pub record Loadable (n m i j w : ℕ) : Type 0 where

@@ -1,16 +1,20 @@
 -- A call of the state machine through words. Assumes nothing.
-use mathlib.Core.Path.{_≡_, _∙_, ap}
+use mathlib.Core.Path.{_≡_, refl, sym, _∙_, ap}
 use mathlib.Core.Bool.{true, false}
 use mathlib.Core.List.{List}
-use Prim.Native.Nat.{ℕ}
+use Prim.Native.Nat.{ℕ, _<_}
 use Rattle.limits.specs.declared.ErrorCode.the-variants.{RecordOutOfOrder}
 use Rattle.machine.specs.declared.FreeCount.the-variants as FreeCount
 use Rattle.machine.specs.declared.Service.{Service}
+use Rattle.machine.specs.declared.Answer.{Answer}
+use Rattle.machine.specs.declared.Answer.the-variants.{Job, Idle, Refused}
+use Rattle.machine.specs.Slots.{slotCount}
 use Rattle.machine.specs.Calls.{Result, freeCountOf}
-use Rattle.service.specs.Called.{calledOf}
+use Rattle.service.specs.Called.{calledOf, afterTurn}
 use Rattle.service.specs.declared.Called.{Called}
 use Rattle.record_words.specs.Words.{fieldsFit, serviceOf}
-use Rattle.word_calls.specs.Exported.{codeOf, numberAfter, wordsAfter, throughWords, Leaves, countWords}
+use Rattle.record_words.proofs.Turns.{turn-written}
+use Rattle.word_calls.specs.Exported.{codeOf, numberAfter, wordsAfter, wordsAfterTurn, throughWords, Leaves, countWords}
 
 -- ---- the free count through words
 pub count-unfit : (words : List ℕ) → fieldsFit words ≡ false → countWords words ≡ FreeCount.Refused RecordOutOfOrder
@@ -58,3 +62,10 @@ module _ (call : Service → Result) (words : List ℕ) (old : ℕ) (store lent 
     pub fit-lent : (after : List ℕ) → after ≡ call r .lent → after ≡ throughWords call words old store lent .lent
     unfolding throughWords
     fit-lent after e = rw fit (rw held at e)
+
+-- ---- a tick's words: of those that hold the record before it two are replaced
+module _ (words : List ℕ) (fit : fieldsFit words ≡ true) (r : Service) (held : r ≡ serviceOf words) where
+  pub turn-words : (answer : Answer) (i left : ℕ) → i < slotCount → wordsAfterTurn answer i left words ≡ wordsAfter answer (afterTurn answer r i left) words
+  turn-words (Job n) i left h = sym (turn-written words fit i left h r held)
+  turn-words Idle i left h = refl
+  turn-words (Refused code) i left h = refl

@@ -2,13 +2,16 @@
 // refusal changes nothing. The service record passes as 67 words of 64 bits, which no call trusts: words that hold no record are
 // refused with 2, as a record out of order is.
 ghost use mathlib.Core.Path.{_≡_};
+ghost use Prim.Native.Nat.{_<_};
 ghost use lib.ListN.{length};
+ghost use Rattle.machine.specs.Slots.{slotCount};
 ghost use Rattle.record_words.specs.Words.{wordCount};
-ghost use Rattle.word_calls.specs.Exported.{codeOf, numberAfter, wordsAfter, Leaves, openingCode, openingWords, submitWords, tickWords, collectWords, withdrawWords, countCode, countAfter, countWords};
+ghost use Rattle.word_calls.specs.Exported.{codeOf, numberAfter, wordsAfter, wordsAfterTurn, Leaves, openingCode, openingWords, submitWords, tickWords, collectWords, withdrawWords, countCode, countAfter, countWords};
 use covariance::Shape;
 use machine::Answer;
 use machine::FreeCount;
 use service::Called;
+use service::Turn;
 
 // What a call answered, handed out: the words and the number are written where it was not refused.
 fn hand_out(words: &mut [u64], number: &mut u64, called: Called) -> u32
@@ -26,6 +29,28 @@ fn hand_out(words: &mut [u64], number: &mut u64, called: Called) -> u32
         }
         Answer::Idle => {
             *number = 0;
+            0
+        }
+        Answer::Refused(code) => limits::error_number(code),
+    }
+}
+
+// What a tick answered, handed out: the two words that it changes, and the number of the job that was served.
+fn hand_out_turn(words: &mut [u64], served: &mut u64, turn: Turn) -> u32
+    requires { ⌜ (length (now words) ≡ wordCount) × (turn .place < slotCount) ⌝ }
+    ensures { λ r. ⌜ r ≡ codeOf (turn .answer) ⌝ }
+    ensures { λ _. ⌜ now (words .exit) ≡ wordsAfterTurn (turn .answer) (turn .place) (turn .left) (now (words .entry)) ⌝ }
+    ensures { λ _. ⌜ now (served .exit) ≡ numberAfter (turn .answer) (now (served .entry)) ⌝ }
+{
+    let answer = turn.answer;
+    match answer {
+        Answer::Job(n) => {
+            record_words::write_turn(words, turn.place, turn.left);
+            *served = n;
+            0
+        }
+        Answer::Idle => {
+            *served = 0;
             0
         }
         Answer::Refused(code) => limits::error_number(code),
@@ -76,8 +101,8 @@ pub fn tick(words: &mut [u64], store: &mut [u16], number: &mut u64) -> u32
         return 2;
     }
     let service = record_words::service_of(words);
-    let called = service::tick(service, store);
-    hand_out(words, number, called)
+    let turn = service::take_turn(service, store);
+    hand_out_turn(words, number, turn)
 }
 
 // Writes a finished job's picture out and empties its slot; writes its number again.

@@ -1,8 +1,8 @@
 -- `image::pixel_at` meets its contract: both sides are at least 1 where refusal 6 is not met, and the index lies inside where
 -- refusal 9 is not met. Assumes nothing.
 use mathlib.Core.Path.{_≡_, sym, _∙_}
-use mathlib.Core.Bool.{true, false}
-use Prim.Native.Nat.{ℕ, _+_, _*_, _<_, _≤_}
+use mathlib.Core.Bool.{true}
+use Prim.Native.Nat.{_+_, _*_, _<_, _≤_}
 use native.Mathlib.Nat.{le-of-lt, mul-le-mul, mul-le-mul-right}
 use native.Mathlib.Omega.{arith}
 use borrow.Author.Tests.{not-true, not-false, eqb-true}
@@ -11,7 +11,7 @@ use mir.Syntax.{w32}
 use mir.ValLaws.{toZ-ofZ}
 use Rattle.limits.specs.Limits.{longestSide, sideInRange, sidesInRange, fillsPicture}
 use Rattle.limits.proofs.Laws.{both-true, in-range}
-use Rattle.image.specs.Image.{pixelAt, nearestPlace}
+use Rattle.image.specs.Image.{pixelAt}
 use Rattle.image.specs.Reading.{readingOf}
 use Rattle.image.proofs.Places.{index-lt}
 use borrow.Author.Needs.{needs}

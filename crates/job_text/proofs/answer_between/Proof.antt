@@ -8,8 +8,8 @@ use denote.Ref.{now}
 use lib.ListN.{length, take}
 use lib.Seq.{length-take-le}
 use Rattle.limits.specs.declared.ErrorCode.the-variants.{TextIsNoJob}
+use Rattle.job_printer.proofs.Buffers.{wrote-as}
 use Rattle.job_text.specs.Answer.{jobAnswer, answerText}
-use Rattle.job_text.proofs.Buffers.{wrote-as}
 use Rattle.job_text.proofs.Bounds.{answer-short, refusal-most}
 use Rattle.job_text.proofs.Answering.{Left, left, no-job-text}
 use Rattle.job_text.proofs.answer_between.Statement.{statement}

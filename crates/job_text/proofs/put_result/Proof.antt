@@ -2,7 +2,7 @@
 -- not 0. Assumes nothing.
 use mathlib.Core.Path.{_≡_, ap, _∙_}
 use mathlib.Core.List.{List, _++_}
-use Prim.Native.Nat.{ℕ, _+_, _<_}
+use Prim.Native.Nat.{ℕ, _<_}
 use native.Mathlib.Omega.{arith}
 use borrow.Author.Needs.{needs}
 use mir.Syntax.{w32}
@@ -13,11 +13,12 @@ use Rattle.limits.specs.declared.Outcome.the-variants.{Accepted}
 use Rattle.kernel.specs.Answer.{kernelAnswer}
 use Rattle.kernel.proofs.Answers.{present}
 use Rattle.kernel.proofs.Theorems.{sound}
-use Rattle.smoothing.proofs.Checks.{all-hold}
+use Rattle.limits.proofs.Checks.{all-hold}
 use Rattle.averaging.proofs.Runs.{normalized}
-use Rattle.job_text.specs.Answer.{kernelText, pictureText, jobChecks, jobKernel, shownText}
-use Rattle.job_text.specs.declared.parser.Header.{Header}
-use Rattle.job_text.proofs.Writing.{Writing, begun, fits, fits-last, one-part, last-part}
+use Rattle.job_printer.specs.Lines.{kernelText, pictureText}
+use Rattle.job_printer.proofs.Writing.{Writing, begun, fits, fits-last, one-part, last-part}
+use Rattle.job_parser.specs.declared.Header.{Header}
+use Rattle.job_text.specs.Answer.{jobChecks, jobKernel, shownText}
 use Rattle.job_text.proofs.put_result.Statement.{statement}
 use Rattle.job_text.proofs.put_result.Tie as tie
 

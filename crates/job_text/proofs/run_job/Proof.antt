@@ -10,9 +10,10 @@ use Rattle.limits.specs.Errors.{firstRefusal}
 use Rattle.limits.specs.declared.Outcome.the-variants.{Accepted}
 use Rattle.smoothing.specs.Runs.{Result, runOf}
 use Rattle.smoothing.proofs.Theorems.{shownAfter}
-use Rattle.job_text.specs.Answer.{jobChecks, shownText, refusalText, jobAnswer}
+use Rattle.job_printer.specs.Lines.{refusalText}
+use Rattle.job_printer.proofs.Buffers.{wrote-as}
+use Rattle.job_text.specs.Answer.{jobChecks, shownText, jobAnswer}
 use Rattle.job_text.proofs.Runs.{shapeOf, run-answers, shown-after, refused-text, shown-fits, shown-text}
-use Rattle.job_text.proofs.Buffers.{wrote-as}
 use Rattle.job_text.proofs.run_job.Statement.{statement}
 use Rattle.job_text.proofs.run_job.Tie as tie
 

@@ -1,10 +1,8 @@
 -- `kernel::kernel_of` meets its contract: the step count is tested first, and the signs are taken off each number as it came
 -- in. Assumes nothing.
 use mathlib.Core.Path.{_≡_, sym, ap, _∙_}
-use mathlib.Core.Bool.{true, false}
-use lib.IntN.{ℤ}
+use mathlib.Core.Bool.{false}
 use mir.Syntax.{w32}
-use mir.Val.{SFits, toZ, ofZ}
 use mir.ValLaws.{toZ-ofZ}
 use Rattle.limits.specs.Limits.{stepsInRange}
 use Rattle.kernel.specs.Answer.{magnitudeOf}

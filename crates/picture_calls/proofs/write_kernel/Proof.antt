@@ -6,7 +6,7 @@ use lib.ListN.{length}
 use borrow.Author.Tests.{ne-eqb}
 use Rattle.limits.specs.Limits.{stepsInRange}
 use Rattle.covariance.proofs.Answers as answers
-use Rattle.smoothing.proofs.Checks.{failed, passed}
+use Rattle.limits.proofs.Checks.{failed, passed}
 use Rattle.picture_calls.specs.Pictures.{kernelCode, kernelAfter}
 use Rattle.picture_calls.proofs.Laws.{kernel-refused, kernel-code, kernel-after}
 use borrow.Author.Needs.{needs}

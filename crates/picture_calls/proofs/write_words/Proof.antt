@@ -1,6 +1,6 @@
 -- `picture_calls::write_words` meets its contract. The invariant: the front of the words is the sum and the weights passed. The
 -- measure is the number of weights left. Assumes nothing.
-use mathlib.Core.Path.{_≡_, refl, sym, ap, _∙_}
+use mathlib.Core.Path.{_≡_, sym, ap, _∙_}
 use mathlib.Core.List.{List, _∷_}
 use Prim.Native.Nat.{ℕ, _+_, _-_, _≤_, _<_}
 use native.Mathlib.Numerals.{add-one}

@@ -1,10 +1,10 @@
 -- `record_words::service_of` meets its contract: the loop has read the first i slots; the three last words follow them. Assumes nothing.
 use borrow.Author.Needs.{needs}
-use mathlib.Core.Path.{_≡_, refl, sym, _∙_, ap}
+use mathlib.Core.Path.{_≡_, sym}
 use native.Mathlib.Omega.{arith}
 use Prim.Native.Nat.{_≤_, _-_}
 use Rattle.machine.specs.Slots.{slotCount}
-use Rattle.record_words.specs.Words.{slotsOf, serviceOf}
+use Rattle.record_words.specs.Words.{serviceOf}
 use Rattle.record_words.proofs.Laws.{slotsTo, slots-none, slots-more, slots-all}
 use Rattle.record_words.proofs.service_of.Statement.{statement}
 use Rattle.record_words.proofs.service_of.Tie as tie

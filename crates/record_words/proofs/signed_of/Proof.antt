@@ -1,7 +1,7 @@
 -- `record_words::signed_of` meets its contract: below 2 ^ 31 a number is itself; from there on the code counts down from −1, as
 -- two's complement does. Assumes nothing.
 use mathlib.Core.Path.{_≡_, sym, _∙_, ap, subst}
-use lib.IntN.{ℤ, negsuc, _-ℤ_}
+use lib.IntN.{negsuc, _-ℤ_}
 use Prim.Native.Nat.{_-_}
 use mir.Syntax.{w32}
 use mir.Val.{SFits, toZ, ofZ}

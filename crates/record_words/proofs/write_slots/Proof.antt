@@ -6,7 +6,7 @@ use mathlib.Core.Path.{_≡_, sym, _∙_, ap}
 use Prim.Native.Nat.{_≤_, _-_}
 use lib.ListN.{length}
 use Rattle.machine.specs.Slots.{slotCount}
-use Rattle.record_words.specs.Words.{wordCount, withSlots}
+use Rattle.record_words.specs.Words.{withSlots}
 use Rattle.record_words.proofs.Laws.{slots-written-none, slots-written-more, slots-written-length}
 use Rattle.record_words.proofs.write_slots.Statement.{statement}
 use Rattle.record_words.proofs.write_slots.Tie as tie

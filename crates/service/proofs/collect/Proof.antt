@@ -1,7 +1,7 @@
 -- `service::collect` meets its contract: refusal 2 is tested first, then the job is looked for, and the rest is `hand_over`'s.
 -- Assumes nothing.
 use mathlib.Core.Path.{_≡_, sym, _∙_, ap}
-use mathlib.Core.Bool.{Bool, true, false, _&&_}
+use mathlib.Core.Bool.{true, _&&_}
 use borrow.Author.Tests.{not-true, not-false}
 use lib.Dec.{eqb}
 use lib.ListN.{length}

@@ -2,7 +2,7 @@
 use native.Mathlib.Omega.{arith}
 use Rattle.machine.specs.Slots.{slotCount}
 use Rattle.machine.specs.Calls.{freeBuffers}
-use Rattle.machine.proofs.Checks.{count-le}
+use Rattle.machine.proofs.Counts.{count-le}
 use Rattle.slots.specs.Sought.{testOf}
 use Rattle.slots.specs.declared.Sought.the-variants.{Filled}
 use borrow.Author.Needs.{needs}

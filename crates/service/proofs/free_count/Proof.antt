@@ -1,7 +1,5 @@
 -- `service::free_count` meets its contract: refusal 2 where the record is not in order, else the count. Assumes nothing.
-use mathlib.Core.Path.{_≡_, sym, _∙_}
-use mathlib.Core.Bool.{true, false}
-use Rattle.machine.specs.Order.{inOrder}
+use mathlib.Core.Path.{sym, _∙_}
 use Rattle.machine.specs.Calls.{freeCountOf}
 use borrow.Author.Needs.{needs}
 use Rattle.service.proofs.free_count.Statement.{statement}

@@ -1,12 +1,11 @@
 -- `service::step_slot` meets its contract: a filled slot has a kernel, and both its buffers lie in the store. Assumes nothing.
-use mathlib.Core.Path.{_≡_, sym, _∙_, ap}
-use Prim.Native.Nat.{ℕ, _+_, _*_, _≤_}
+use mathlib.Core.Path.{_≡_, _∙_, ap}
+use Prim.Native.Nat.{_*_}
 use native.Mathlib.Omega.{arith}
 use borrow.Author.Tests.{leb-true}
 use Rattle.limits.specs.Limits.{longestSide, bufferPixels, sideInRange}
 use Rattle.limits.proofs.Laws.{both-true, in-range}
 use Rattle.kernel.specs.declared.KernelAnswer.{KernelAnswer}
-use Rattle.kernel.specs.declared.Kernel.{Kernel}
 use Rattle.kernel.specs.Answer.{kernelAnswer}
 use Rattle.kernel.proofs.Answers.{present}
 use Rattle.kernel.proofs.Theorems.{sound}

@@ -1,9 +1,8 @@
 -- `service::submit` meets its contract: refusal 2 is tested first, then the shape, then the rest, and an accepted job is
 -- filled in with the numbers of its shape. Assumes nothing.
-use mathlib.Core.Path.{_≡_, refl, sym, _∙_, ap}
-use mathlib.Core.Bool.{Bool, true, false, _&&_}
-use mathlib.Core.List.{List}
-use Prim.Native.Nat.{ℕ, _+_, _*_, _<_, _≤_}
+use mathlib.Core.Path.{_≡_, sym, _∙_, ap}
+use mathlib.Core.Bool.{true, _&&_}
+use Prim.Native.Nat.{_+_, _*_, _<_, _≤_}
 use native.Mathlib.Omega.{arith}
 use borrow.Author.Tests.{not-true, not-false, ltb-true, eqb-true, leb-true}
 use lib.Dec.{eqb}
@@ -13,15 +12,14 @@ use mir.Val.{toZ, ofZ}
 use Rattle.machine.specs.declared.Slot.{Slot}
 use Rattle.limits.specs.Limits.{bufferPixels}
 use Rattle.limits.specs.Errors.{firstRefusal}
-use Rattle.limits.specs.declared.Outcome.{Outcome}
 use Rattle.limits.specs.declared.Outcome.the-variants as O
 use Rattle.covariance.specs.Shapes.{covarianceXX, covarianceXY, covarianceYY}
-use Rattle.machine.specs.Calls.{Result, jobChecks, roomChecks, lastNumber, emptyPlace, newSlot}
+use Rattle.machine.specs.Calls.{Result, jobChecks, roomChecks, lastNumber, emptyPlace}
 use Rattle.machine.specs.Store.{storeLength}
 use Rattle.machine.specs.Order.{inOrder}
-use Rattle.machine.proofs.Checks.{AllHold, all-hold}
+use Rattle.limits.proofs.Checks.{all-hold}
 use Rattle.slots.proofs.Laws.{passed-on}
-use Rattle.service.specs.Called.{calledOf, fillAt}
+use Rattle.service.specs.Called.{calledOf}
 use Rattle.service.proofs.Laws.{usable-parts, submit-unusable, submit-bad-shape, submit-checked, ShapeIs, shape-fine, shape-refused, fill-is}
 use borrow.Author.Needs.{needs}
 use Rattle.service.proofs.submit.Statement.{statement}

@@ -1,127 +1,67 @@
--- `service::tick` meets its contract: refusal 2 is tested first, then the slot is looked for; its step is `step_slot`'s.
--- Assumes nothing.
-use mathlib.Core.Path.{_≡_, refl, sym, _∙_, ap}
-use mathlib.Core.Bool.{Bool, true, false, _&&_}
-use Prim.Native.Nat.{ℕ, _<_}
-use native.Mathlib.Omega.{arith}
-use borrow.Author.Tests.{not-true, not-false, ltb-true}
-use lib.Dec.{eqb}
-use lib.ListN.{length}
-use Rattle.machine.specs.Calls.{Result, servedPlace}
-use Rattle.machine.specs.declared.Found.the-variants.{At, Nothing}
-use Rattle.machine.specs.Slots.{slotCount, slotAt, hasStepsLeft, nextPlace, firstFrom}
-use Rattle.machine.specs.Store.{storeLength}
-use Rattle.machine.specs.Order.{inOrder}
-use Rattle.machine.proofs.Search as S
-use Rattle.machine.proofs.Orderly.{served-lt, left-filled, filled-slot}
-use Rattle.service.specs.Called.{calledOf}
-use Rattle.service.proofs.Laws.{usable-parts, tick-unusable, tick-found}
+-- `service::tick` meets its contract: the turn says what the tick answers and changes; the record is made of it. Assumes nothing.
+use Rattle.machine.specs.declared.Answer.the-variants.{Job, Idle, Refused}
+use Rattle.service.proofs.Laws.{turn-called}
 use borrow.Author.Needs.{needs}
 use Rattle.service.proofs.tick.Statement.{statement}
 use Rattle.service.proofs.tick.Tie as tie
 
-usable-requires : tie.Need-usable-requires
-usable-requires c κs = search needs
+take-turn-requires : tie.Need-take-turn-requires
+take-turn-requires c κs = search needs
 
-refused-requires : tie.Need-refused-requires
-refused-requires c κs = search needs
+enum-known-answer : tie.Need-enum-known-answer
+enum-known-answer c = search needs
 
-returns : tie.Need-returns
-returns c =
-    let a = c .before .before .before .before .args in
-    let e = tick-unusable (a .t1) (a .store .now) (sym (c .before .before .usable .ensures) ∙ not-true _ (c .before .if1 .taken)) in
-    (c .refused .ensures ∙ sym (ap calledOf e), sym (ap (λ (r : Result). r .store) e))
-
-cast-next-place : tie.Need-cast-next-place
-cast-next-place c = search needs
-
--- where the record is usable
-good : (c : tie.Else1) → (inOrder (c .before .before .before .args .t1) && eqb (length (c .before .before .before .args .store .now)) storeLength) ≡ true
-good c = sym (c .before .usable .ensures) ∙ not-false _ (c .if1 .left)
-
-next-place-requires : tie.Need-next-place-requires
-next-place-requires c κs = let a = c .before .before .before .args in served-lt (a .t1) (usable-parts (a .t1) (a .store .now) (good c) .0)
-
--- the slot that the search found
-module _ (c : tie.After-find) where
-  searched : c .find .result ≡ servedPlace (c .before .before .before .before .before .args .t1)
-  searched = c .find .ensures ∙ ap (λ (place : ℕ). firstFrom hasStepsLeft (c .before .before .before .before .before .args .t1 .slots) slotCount place slotCount) (c .before .next-place .ensures .0)
-
-module _ (c : tie.After-place) where
-  found : servedPlace (c .before .before .before .before .before .before .before .args .t1) ≡ At (c .place .given .0 .0)
-  found = sym (searched (c .before .before)) ∙ c .place .given .1
-
-  at : (c .place .given .0 .0 < slotCount) × (0 < slotAt (c .before .before .before .before .before .before .before .args .t1) (c .place .given .0 .0) .left)
-  at =
-      let r = c .before .before .before .before .before .before .before .args .t1 in
-      let w = S.found hasStepsLeft (r .slots) slotCount (omega arith) slotCount (nextPlace slotCount (r .served)) (c .place .given .0 .0) (S.next-lt slotCount (r .served) (omega arith)) found in
-      (w .0, ltb-true _ _ (w .1))
-
-find-requires : tie.Need-find-requires
-find-requires c κs = search needs
-
-enum-known-place : tie.Need-enum-known-place
-enum-known-place c = search needs
-
-mul-slot : tie.Need-mul-slot
-mul-slot c = let h = at (c .before) .0 in omega arith
-
-element-copy-out-slot : tie.Need-element-copy-out-slot
-element-copy-out-slot c = at (c .before) .0
-
-step-slot-requires : tie.Need-step-slot-requires
-step-slot-requires c κs =
-    let p = c .before .before .before in
-    let a = p .before .before .before .before .before .before .before .args in
-    let u = usable-parts (a .t1) (a .store .now) (good (p .before .before .before .before)) in
-    let h = at p in
-    record {
-      long = u .1;
-      at = h .0;
-      left = h .1;
-      last = a .t1 .last;
-      filled = filled-slot (a .t1) (u .0) (p .place .given .0 .0) (h .0) (left-filled (a .t1) (u .0) (p .place .given .0 .0) (h .0) (h .1));
-    }
-
-stepped-requires : tie.Need-stepped-requires
-stepped-requires c κs = at (c .before .before .before .before .before .before)
+turned-requires : tie.Need-turned-requires
+turned-requires c κs = search needs
 
 enum-told : tie.Need-enum-told
 enum-told c = search needs
 
+enum-known-answer-2 : tie.Need-enum-known-answer-2
+enum-known-answer-2 c = search needs
+
+refused-requires : tie.Need-refused-requires
+refused-requires c κs = search needs
+
 same-length : tie.Need-same-length
 same-length c = search needs
 
+returns : tie.Need-returns
+returns c =
+    let t = c .before .before .before .before .before .before .take-turn in
+    let e = c .before .before .answer .given in
+    (rw (c .turned .ensures) (turn-called _ (t .result) _ (t .ensures .0) (Job _) (e .1)), t .ensures .1)
+
+same-length-2 : tie.Need-same-length-2
+same-length-2 c = search needs
+
 returns-2 : tie.Need-returns-2
 returns-2 c =
-    let p = c .before .before .before .before .before .before .before in
-    let a = p .before .before .before .before .before .before .before .args in
-    let e = tick-found (a .t1) (a .store .now) (good (p .before .before .before .before)) (At (p .place .given .0 .0)) (found p) in
-    (rw (c .stepped .ensures (a .store .now)) (sym (ap calledOf e)), c .before .before .before .step-slot .ensures ∙ sym (ap (λ (r : Result). r .store) e))
+    let t = c .before .before .before .before .take-turn in
+    (turn-called _ (t .result) _ (t .ensures .0) Idle (c .enum-told .given .1), t .ensures .1)
+
+same-length-3 : tie.Need-same-length-3
+same-length-3 c = search needs
 
 returns-3 : tie.Need-returns-3
 returns-3 c =
-    let f = c .before .before in
-    let a = f .before .before .before .before .before .args in
-    let e = tick-found (a .t1) (a .store .now) (good (f .before .before)) Nothing (sym (searched f) ∙ c .enum-told .given .1) in
-    (sym (ap calledOf e), sym (ap (λ (r : Result). r .store) e))
+    let t = c .before .before .before .before .before .before .take-turn in
+    let e = c .before .before .answer2 .given in
+    (rw (c .refused .ensures) (turn-called _ (t .result) _ (t .ensures .0) (Refused _) (e .1)), t .ensures .1)
 
 pub tick-spec : {M : Type 1} → statement M
 tick-spec =
     tie.close
     (tie.spec
-    usable-requires
-    refused-requires
-    returns
-    cast-next-place
-    next-place-requires
-    find-requires
-    enum-known-place
-    mul-slot
-    element-copy-out-slot
-    step-slot-requires
-    stepped-requires
+    take-turn-requires
+    enum-known-answer
+    turned-requires
     enum-told
+    enum-known-answer-2
+    refused-requires
     same-length
+    returns
+    same-length-2
     returns-2
+    same-length-3
     returns-3)

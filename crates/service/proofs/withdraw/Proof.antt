@@ -1,8 +1,6 @@
 -- `service::withdraw` meets its contract: the record is tested first, then the job is looked for. Assumes nothing.
-use mathlib.Core.Path.{_≡_, sym, _∙_}
+use mathlib.Core.Path.{sym, _∙_}
 use Rattle.machine.specs.Calls.{withdrawOf}
-use Rattle.machine.specs.Order.{inOrder}
-use mathlib.Core.Bool.{true, false}
 use Rattle.machine.proofs.Orderly.{place-found}
 use borrow.Author.Needs.{needs}
 use Rattle.service.proofs.withdraw.Statement.{statement}

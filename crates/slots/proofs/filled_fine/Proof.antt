@@ -1,5 +1,4 @@
 -- `slots::filled_fine` meets its contract: the tests of the definition, from the inside out. Assumes nothing.
-use mathlib.Core.Path.{_≡_, sym, _∙_, ap}
 use Rattle.machine.specs.Order.{filledFine}
 use Rattle.slots.proofs.Laws.{passed-on}
 use borrow.Author.Needs.{needs}

@@ -1,9 +1,8 @@
 -- `slots::find` meets its contract. The invariant: what the search finds from here on is what it finds in all. The measure is
 -- the number of slots left to look at. Assumes nothing.
 use borrow.Author.Needs.{needs}
-use native.Mathlib.Omega.{arith}
-use mathlib.Core.Path.{_≡_, refl, sym, _∙_, ap}
-use Prim.Native.Nat.{_<_, _≤_}
+use mathlib.Core.Path.{_≡_, sym, _∙_}
+use Prim.Native.Nat.{_<_}
 use Rattle.machine.specs.Slots.{slotCount, firstFrom}
 use Rattle.slots.specs.Sought.{testOf}
 use Rattle.slots.proofs.Laws.{first-hit, first-miss, first-none}

@@ -1,9 +1,7 @@
 -- `slots::has_kernel` meets its contract: the kernel call refuses exactly where a test fails. Assumes nothing.
 use mathlib.Core.Path.{_≡_, sym, _∙_, ap}
-use lib.IntN.{ℤ}
 use mir.Syntax.{w32}
 use mir.ValLaws.{toZ-ofZ}
-use Rattle.limits.specs.declared.Outcome.the-variants.{Accepted, Refused}
 use Rattle.kernel.specs.declared.KernelAnswer.{KernelAnswer}
 use Rattle.kernel.specs.Answer.{kernelAnswer}
 use Rattle.slots.proofs.Laws.{with-kernel, without-kernel}

@@ -1,17 +1,18 @@
--- `slots::in_order` meets its contract. The invariant: every slot passed is fine. The measure is what is left of the eight.
--- Assumes nothing.
+-- `slots::in_order` meets its contract. The invariant: every slot passed is fine after the slots before it. The measure is what
+-- is left of the eight. Assumes nothing.
 use borrow.Author.Needs.{needs}
 use native.Mathlib.Omega.{arith}
-use mathlib.Core.Path.{_≡_, sym, _∙_, ap}
+use mathlib.Core.Path.{_≡_, sym}
 use Prim.Native.Nat.{_≤_, _-_}
-use Rattle.machine.specs.Slots.{slotCount, everySlot}
-use Rattle.machine.specs.Order.{slotFine, inOrder}
-use Rattle.slots.proofs.Laws.{every-none, every-more, fine-among}
+use Rattle.machine.specs.Slots.{slotCount, slotAt}
+use Rattle.machine.specs.Order.{inOrder}
+use Rattle.slots.specs.Numbers.{slotFineAfter}
+use Rattle.slots.proofs.Apart.{allBelow, all-none, all-more, after-fine}
 use Rattle.slots.proofs.in_order.Statement.{statement}
 use Rattle.slots.proofs.in_order.Tie as tie
 
 abbrev Inv-loop : tie.InvT-loop
-Inv-loop service numbers fine₀ i₀ fine i = (i ≤ slotCount) × (fine ≡ everySlot (slotFine service) (service .slots) i)
+Inv-loop service numbers fine₀ i₀ fine i = (i ≤ slotCount) × (fine ≡ allBelow (λ k. slotFineAfter (service .last) numbers k (slotAt service k)) i)
 
 abbrev μ-loop : tie.MeasureT-loop
 μ-loop service numbers fine₀ i₀ fine i = slotCount - i
@@ -20,7 +21,7 @@ numbers-of-requires : tie.Need-numbers-of-requires Inv-loop μ-loop
 numbers-of-requires c κs = search needs
 
 loop-holds : tie.Need-loop-holds Inv-loop μ-loop
-loop-holds c = (omega arith, sym (every-none _ _))
+loop-holds c = (omega arith, sym (all-none _))
 
 mul-slot : tie.Need-mul-slot Inv-loop μ-loop
 mul-slot c = search needs
@@ -43,8 +44,7 @@ loop-less c = search needs
 loop-again : tie.Need-loop-again Inv-loop μ-loop
 loop-again c =
     let l = c .before .before .before .before in
-    let numbers = l .before .numbers-of .ensures in
-    (omega arith, rw (every-more, c .both .ensures, c .before .slot-fine .ensures, numbers, fine-among, l .loop .inv .1))
+    (omega arith, rw (all-more, c .both .ensures, c .before .slot-fine .ensures, l .loop .inv .1))
 
 both-requires-2 : tie.Need-both-requires-2 Inv-loop μ-loop
 both-requires-2 c κs = search needs
@@ -57,7 +57,7 @@ unfolding inOrder
 returns c =
     let l = c .before .before .before in
     let e : l .loop .i ≡ slotCount = omega arith in
-    rw (c .both3 .ensures, c .before .both2 .ensures, l .loop .inv .1, e)
+    rw (c .both3 .ensures, c .before .both2 .ensures, l .loop .inv .1, e, l .before .numbers-of .ensures, after-fine (l .before .before .args .t1))
 
 pub in-order-spec : {M : Type 1} → statement M
 in-order-spec =

@@ -4,7 +4,7 @@ use mathlib.Core.Path.{_≡_}
 use mathlib.Core.Bool.{true}
 use borrow.Author.Needs.{needs}
 use Rattle.limits.specs.Limits.{stepsInRange, sidesInRange, fillsPicture}
-use Rattle.smoothing.proofs.Checks.{failed, passed}
+use Rattle.limits.proofs.Checks.{failed, passed}
 use Rattle.smoothing.proofs.checked.Statement.{statement}
 use Rattle.smoothing.proofs.checked.Tie as tie
 

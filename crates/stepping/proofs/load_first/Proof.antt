@@ -5,10 +5,9 @@ use mathlib.Core.Logic.{inl, inr}
 use Prim.Native.Nat.{ℕ, _+_}
 use native.Mathlib.Omega.{arith}
 use lib.ListN.{length}
-use Rattle.stepping.specs.Rows.{paddedOf}
-use Rattle.stepping.specs.Buffers.{part}
-use Rattle.stepping.proofs.Buffers.{length-part, part-written, part-kept}
-use Rattle.stepping.proofs.Rows.{length-padded}
+use Rattle.row_core.specs.Rows.{paddedOf, part}
+use Rattle.row_core.proofs.Rows.{length-part, length-padded}
+use Rattle.stepping.proofs.Buffers.{part-written, part-kept}
 use borrow.Author.Needs.{needs}
 use Rattle.stepping.proofs.load_first.Statement.{statement}
 use Rattle.stepping.proofs.load_first.Tie as tie

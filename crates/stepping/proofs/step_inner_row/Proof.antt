@@ -4,10 +4,9 @@ use mathlib.Core.Path.{_∙_}
 use Prim.Native.Nat.{_+_}
 use native.Mathlib.Omega.{arith}
 use lib.ListN.{length}
-use Rattle.stepping.specs.Rows.{AllPixels}
-use Rattle.stepping.specs.Buffers.{part}
-use Rattle.stepping.proofs.Buffers.{length-part}
-use Rattle.stepping.proofs.Pixels.{part-pixels, padded-pixels}
+use Rattle.row_core.specs.Rows.{AllPixels, part}
+use Rattle.row_core.proofs.Pixels.{part-pixels, padded-pixels}
+use Rattle.row_core.proofs.Rows.{length-part}
 use Rattle.stepping.proofs.Windows.{inside, Below, load-below}
 use borrow.Author.Needs.{needs}
 use Rattle.stepping.proofs.step_inner_row.Statement.{statement}

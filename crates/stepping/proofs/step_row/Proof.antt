@@ -3,10 +3,10 @@
 use mathlib.Core.Path.{_∙_}
 use Prim.Native.Nat.{_+_}
 use native.Mathlib.Nat.{add-sub-cancel-left}
-use Rattle.stepping.specs.Prepared.{kernelWith}
-use Rattle.stepping.specs.Buffers.{part}
-use Rattle.stepping.proofs.Buffers.{length-part, placed}
-use Rattle.stepping.proofs.Rows.{length-row}
+use Rattle.row_core.specs.Prepared.{kernelWith}
+use Rattle.row_core.specs.Rows.{part}
+use Rattle.row_core.proofs.Rows.{length-part, length-row}
+use Rattle.stepping.proofs.Buffers.{placed}
 use borrow.Author.Needs.{needs}
 use Rattle.stepping.proofs.step_row.Statement.{statement}
 use Rattle.stepping.proofs.step_row.Tie as tie

@@ -11,13 +11,13 @@ use lib.Seq.{take-all}
 use borrow.Author.Needs.{needs}
 use Rattle.kernel.specs.declared.Kernel.{Kernel}
 use Rattle.image.specs.Image.{rows}
-use Rattle.stepping.specs.Prepared.{kernelWith}
-use Rattle.stepping.specs.Rows.{paddedOf, AllPixels}
-use Rattle.stepping.specs.Buffers.{part, Loaded}
+use Rattle.row_core.specs.Prepared.{kernelWith}
+use Rattle.row_core.specs.Rows.{paddedOf, AllPixels, part}
+use Rattle.row_core.proofs.Pixels.{part-pixels, padded-pixels}
+use Rattle.row_core.proofs.Rows.{length-part, lineOf, length-row, row-inside, by-lines}
+use Rattle.stepping.specs.Buffers.{Loaded}
 use Rattle.stepping.specs.declared.Window.{Window}
-use Rattle.stepping.proofs.Buffers.{length-part}
-use Rattle.stepping.proofs.Pixels.{part-pixels, padded-pixels}
-use Rattle.stepping.proofs.Rows.{lineOf, length-row, row-inside, store-row, by-lines}
+use Rattle.stepping.proofs.Buffers.{store-row}
 use Rattle.stepping.proofs.Windows.{inside, load-below, move-down}
 use Rattle.stepping.proofs.step_through.Statement.{statement}
 use Rattle.stepping.proofs.step_through.Tie as tie

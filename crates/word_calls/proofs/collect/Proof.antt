@@ -2,7 +2,6 @@
 -- call is made on their record, and `hand_out` writes what it answered. Assumes nothing.
 use mathlib.Core.Path.{_≡_, sym, _∙_}
 use mathlib.Core.Bool.{true}
-use mathlib.Core.List.{[]}
 use borrow.Author.Tests.{not-true, not-false}
 use Rattle.machine.specs.declared.Service.{Service}
 use Rattle.machine.specs.Calls.{Result, collectOf}

@@ -1,14 +1,16 @@
--- `word_calls::tick` meets its contract: words that hold no record are refused before the call; the others are decoded, the call
--- is made on their record, and `hand_out` writes what it answered. Assumes nothing.
-use mathlib.Core.Path.{_≡_, sym, _∙_}
+-- `word_calls::tick` meets its contract: words that hold no record are refused before the call; the others are decoded, the turn
+-- is taken on their record, and `hand_out_turn` writes what it changes. Assumes nothing.
+use mathlib.Core.Path.{_≡_, refl, sym, _∙_}
 use mathlib.Core.Bool.{true}
 use mathlib.Core.List.{[]}
 use borrow.Author.Tests.{not-true, not-false}
 use Rattle.machine.specs.declared.Service.{Service}
 use Rattle.machine.specs.Calls.{Result, tickOf}
+use Rattle.service.specs.Called.{afterTurn}
+use Rattle.service.proofs.Laws.{turn-called}
 use Rattle.record_words.specs.Words.{fieldsFit}
 use Rattle.record_words.proofs.Laws.{fit-length}
-use Rattle.word_calls.proofs.Laws.{unfit-leaves, fit-leaves, unfit-store, fit-store}
+use Rattle.word_calls.proofs.Laws.{unfit-leaves, fit-leaves, unfit-store, fit-store, turn-words}
 use borrow.Author.Needs.{needs}
 use Rattle.word_calls.proofs.tick.Statement.{statement}
 use Rattle.word_calls.proofs.tick.Tie as tie
@@ -38,11 +40,11 @@ returns c =
 service-of-requires : tie.Need-service-of-requires
 service-of-requires c κs = good (c .before)
 
-tick-requires : tie.Need-tick-requires
-tick-requires c κs = search needs
+take-turn-requires : tie.Need-take-turn-requires
+take-turn-requires c κs = search needs
 
-hand-out-requires : tie.Need-hand-out-requires
-hand-out-requires c κs = fit-length _ (good (c .before .before .before .before .before .before .before .before))
+hand-out-turn-requires : tie.Need-hand-out-turn-requires
+hand-out-turn-requires c κs = (fit-length _ (good (c .before .before .before .before .before .before .before .before)), c .before .before .before .before .take-turn .ensures .0 .within)
 
 same-length-2 : tie.Need-same-length-2
 same-length-2 c = search needs
@@ -52,9 +54,12 @@ same-length-3 c = search needs
 
 returns-2 : tie.Need-returns-2
 returns-2 c =
-    let handed = c .before .before .hand-out .ensures in
+    let handed = c .before .before .hand-out-turn .ensures in
     let made = c .before .before .before .before .before .before .before in
+    let t = made .take-turn .result in
+    let is = made .take-turn .ensures .0 in
     let read = made .before .before in
+    let r = read .service-of .result in
     let held = read .service-of .ensures in
     let fit = good (read .before .before) in
     let a = read .before .before .before .before .before .before .before .args in
@@ -62,8 +67,14 @@ returns-2 c =
     let old = a .number .now in
     let store = a .store .now in
     let call : Service → Result = λ r. tickOf r (a .store .now) in (
-      fit-leaves call words old store [] fit _ held _ _ _ _ (made .tick .ensures .0) handed,
-      fit-store call words old store [] fit _ held _ (made .tick .ensures .1),
+      fit-leaves call words old store [] fit r held
+          (record { answer = t .answer; service = afterTurn (t .answer) r (t .place) (t .left) })
+          _
+          _
+          _
+          (turn-called r t _ is (t .answer) refl)
+          (handed .0, (handed .1 .0 ∙ turn-words words fit r held (t .answer) (t .place) (t .left) (is .within), handed .1 .1)),
+      fit-store call words old store [] fit r held _ (made .take-turn .ensures .1),
     )
 
 pub tick-spec : {M : Type 1} → statement M
@@ -74,8 +85,8 @@ tick-spec =
     same-length
     returns
     service-of-requires
-    tick-requires
-    hand-out-requires
+    take-turn-requires
+    hand-out-turn-requires
     same-length-2
     same-length-3
     returns-2)

@@ -1,0 +1,76 @@
+// A run between two pictures, exported. What each call writes and refuses is said in picture_calls.
+ghost use mathlib.Core.Path.{_≡_};
+ghost use Rattle.limits.specs.Errors.{outcomeNumber};
+ghost use Rattle.smoothing.specs.Runs.{runOf};
+use covariance::Direction;
+use covariance::Shape;
+
+// A run with the kernel whose shape is a covariance matrix in 1/4096 square pixel.
+#[no_mangle]
+pub extern "C" fn vokhsaot_run_matrix(
+    xx: i32,
+    xy: i32,
+    yy: i32,
+    steps: u32,
+    width: u32,
+    height: u32,
+    first: &mut [u16],
+    second: &mut [u16],
+) -> u32
+    ensures { λ r. ⌜ r ≡ outcomeNumber (runOf (Shape.Matrix xx xy yy) steps width height (now (first .entry)) (now (second .entry)) .outcome) ⌝ }
+    ensures { λ _. ⌜ now (first .exit) ≡ runOf (Shape.Matrix xx xy yy) steps width height (now (first .entry)) (now (second .entry)) .first ⌝ }
+    ensures { λ _. ⌜ now (second .exit) ≡ runOf (Shape.Matrix xx xy yy) steps width height (now (first .entry)) (now (second .entry)) .second ⌝ }
+{
+    picture_calls::run(
+        Shape::Matrix(xx, xy, yy),
+        steps,
+        width,
+        height,
+        first,
+        second,
+    )
+}
+
+// A run with the kernel whose shape is round, of this variance in square pixels.
+#[no_mangle]
+pub extern "C" fn vokhsaot_run_round(
+    variance: f64,
+    steps: u32,
+    width: u32,
+    height: u32,
+    first: &mut [u16],
+    second: &mut [u16],
+) -> u32
+    ensures { λ r. ⌜ r ≡ outcomeNumber (runOf (Shape.Round variance) steps width height (now (first .entry)) (now (second .entry)) .outcome) ⌝ }
+    ensures { λ _. ⌜ now (first .exit) ≡ runOf (Shape.Round variance) steps width height (now (first .entry)) (now (second .entry)) .first ⌝ }
+    ensures { λ _. ⌜ now (second .exit) ≡ runOf (Shape.Round variance) steps width height (now (first .entry)) (now (second .entry)) .second ⌝ }
+{
+    picture_calls::run(Shape::Round(variance), steps, width, height, first, second)
+}
+
+// A run with the kernel whose shape is oval, by its variances along and across a direction.
+#[no_mangle]
+pub extern "C" fn vokhsaot_run_oval(
+    long: f64,
+    short: f64,
+    cosine: f64,
+    sine: f64,
+    steps: u32,
+    width: u32,
+    height: u32,
+    first: &mut [u16],
+    second: &mut [u16],
+) -> u32
+    ensures { λ r. ⌜ r ≡ outcomeNumber (runOf (Shape.Oval long short (record { cosine = cosine; sine = sine })) steps width height (now (first .entry)) (now (second .entry)) .outcome) ⌝ }
+    ensures { λ _. ⌜ now (first .exit) ≡ runOf (Shape.Oval long short (record { cosine = cosine; sine = sine })) steps width height (now (first .entry)) (now (second .entry)) .first ⌝ }
+    ensures { λ _. ⌜ now (second .exit) ≡ runOf (Shape.Oval long short (record { cosine = cosine; sine = sine })) steps width height (now (first .entry)) (now (second .entry)) .second ⌝ }
+{
+    picture_calls::run(
+        Shape::Oval(long, short, Direction { cosine, sine }),
+        steps,
+        width,
+        height,
+        first,
+        second,
+    )
+}

@@ -1,0 +1,33 @@
+-- How many pixels a text can have. Assumes nothing.
+use mathlib.Core.Path.{_≡_, sym, ap, _∙_}
+use mathlib.Core.List.{List}
+use Prim.Native.Nat.{ℕ, zero, suc, _+_, _*_, _≤_}
+use native.Mathlib.Nat.{mul-zero, mul-suc}
+use native.Mathlib.Omega.{arith}
+use lib.ListN.{length, take, drop, length-append, length-drop, take-append-drop}
+use Rattle.job_printer.specs.Fields.{rowLines}
+use Rattle.job_parser.specs.Job.{Job, IsText}
+use Rattle.job_parser.specs.Pictures.{mostPixels}
+use Rattle.job_parser.proofs.Parsing.{header-long}
+use Rattle.job_parser.proofs.Filling.{line-long}
+
+pub split : (n : ℕ) (l : List ℕ) → length (take n l) + length (drop n l) ≡ length l
+split n l = sym (length-append (take n l) (drop n l)) ∙ ap length (take-append-drop n l)
+
+rows-long : (w h : ℕ) (pixels : List ℕ) → length pixels ≡ w * h → 2 * length pixels ≤ length (rowLines w h pixels)
+unfolding rowLines
+rows-long w zero pixels e = omega (arith, mul-zero w)
+rows-long w (suc h) pixels e =
+    let rest : length (drop w pixels) ≡ w * h = rw length-drop (omega (arith, mul-suc w h)) in
+    let more = rows-long w h (drop w pixels) rest in
+    rw length-append (omega (arith, line-long (take w pixels), split w pixels))
+
+-- EACH PIXEL TAKES AT LEAST A DIGIT AND A SEPARATOR, and line one 14 bytes
+pub pixels-fit : (text : List ℕ) (job : Job) → IsText text job → 2 * length (job .pixels) + 14 ≤ length text
+pixels-fit text job is =
+    let h = job .header in
+    rw (is .bytes, length-append) (omega (arith, header-long h, rows-long (h .width) (h .height) (job .pixels) (is .types .count)))
+
+-- so that two pictures of 8,191 pixels are enough for every job text
+pub picture-fits : (text : List ℕ) (job : Job) → IsText text job → length (job .pixels) ≤ mostPixels
+picture-fits text job is = omega (arith, pixels-fit text job is, is .short)

@@ -1,0 +1,73 @@
+-- Document 01, "Bench program": a job, and the text that it is written as. Definitions only.
+use mathlib.Core.Path.{_≡_}
+use mathlib.Core.List.{List, [], _∷_, _++_}
+use Prim.Native.Nat.{ℕ, suc, _*_, _≤_}
+use lib.ListN.{length}
+use lib.IntN.{ℤ, pos, negsuc}
+use Rattle.limits.specs.Limits.{largestPixel}
+use Rattle.job_printer.specs.Numerals.{numeral, integer}
+use Rattle.job_printer.specs.Fields.{line, rowLines}
+use Rattle.job_parser.specs.declared.Header.{Header}
+
+-- `Header` has the fields xx, xy, yy, steps, width, height
+pub record Job : Type 0 where
+  pub header : Header
+  pub pixels : List ℕ
+
+-- the first byte of a job text: J
+abbrev pub jobLetter : ℕ
+jobLetter = 74
+
+-- "Line one: J, xx, xy, yy, k, w, h; then h lines of w pixels; where w or h is 0 no pixel line follows"
+abbrev pub headerText : Header → List ℕ
+headerText header =
+    line
+    ((jobLetter ∷ []) ∷ integer (header .xx) ∷ integer (header .xy) ∷ integer (header .yy)
+    ∷ numeral (header .steps) ∷ numeral (header .width) ∷ numeral (header .height) ∷ [])
+
+abbrev pub textOf : Job → List ℕ
+textOf job = headerText (job .header) ++ rowLines (job .header .width) (job .header .height) (job .pixels)
+
+-- "It reads one job from standard input, at most 16,384 bytes; a longer text is no job"
+abbrev pub longestText : ℕ
+longestText = 16384
+
+abbrev pub mostUnsigned : ℕ
+mostUnsigned = 4294967295
+
+abbrev pub mostPositive : ℕ
+mostPositive = 2147483647
+
+abbrev pub mostNegative : ℕ
+mostNegative = 2147483648
+
+-- "Shape fields are signed 32-bit"
+abbrev pub Signed : ℤ → Type 0
+Signed (pos n) = n ≤ mostPositive
+Signed (negsuc n) = suc n ≤ mostNegative
+
+-- each number of a list is at most a limit
+abbrev pub EachAtMost : ℕ → List ℕ → Type 0
+EachAtMost limit [] = Unit {0}
+EachAtMost limit (n ∷ ns) = (n ≤ limit) × EachAtMost limit ns
+
+-- "Shape fields are signed 32-bit, k, w, h unsigned 32-bit"
+pub record HeaderInTypes (header : Header) : Type 0 where
+  pub xx : Signed (header .xx)
+  pub xy : Signed (header .xy)
+  pub yy : Signed (header .yy)
+  pub steps : header .steps ≤ mostUnsigned
+  pub width : header .width ≤ mostUnsigned
+  pub height : header .height ≤ mostUnsigned
+
+-- and its pixels fill its picture
+pub record InTypes (job : Job) : Type 0 where
+  pub header : HeaderInTypes (job .header)
+  pub pixels : EachAtMost largestPixel (job .pixels)
+  pub count : length (job .pixels) ≡ job .header .width * job .header .height
+
+-- a text is a job: refusal 1 is its failure
+pub record IsText (text : List ℕ) (job : Job) : Type 0 where
+  pub bytes : text ≡ textOf job
+  pub short : length text ≤ longestText
+  pub types : InTypes job

@@ -1,0 +1,6 @@
+-- The text of a job, and what is read of it.
+pub mod Job
+pub mod Reading
+pub mod Parsing
+pub mod Found
+pub mod Pictures

@@ -1,0 +1,7 @@
+-- Laws.
+pub mod Loops
+pub mod Numerals
+pub mod Buffers
+pub mod Divisors
+pub mod Writing
+pub mod Theorems

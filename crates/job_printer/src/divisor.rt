@@ -1,0 +1,22 @@
+// The greatest common divisor, by Euclid's recursion.
+ghost use mathlib.Core.List.{[], _∷_};
+ghost use Rattle.job_printer.specs.Divisors.{GreatestDivisor};
+use kernel::Kernel;
+
+fn divisor(a: u64, b: u64) -> u64
+    ensures { λ r. ⌜ GreatestDivisor (a ∷ b ∷ []) r ⌝ }
+{
+    if b == 0 { a } else { divisor(b, a % b) }
+}
+
+// The divisor of a kernel's sum and its nine weights.
+pub fn kernel_divisor(kernel: Kernel) -> u64
+    ensures { λ r. ⌜ GreatestDivisor (kernel .sum ∷ kernel .weights) r ⌝ }
+{
+    let weights = kernel.weights;
+    let mut found = kernel.sum;
+    for i in 0..9 {
+        found = divisor(weights[i], found);
+    }
+    found
+}

@@ -1,0 +1,85 @@
+-- Coefficients stand for a kernel, and what is made with them fits its type and is the kernel's average. Assumes nothing.
+use mathlib.Core.Path.{_≡_, sym, ap, ap₂, subst, _∙_}
+use mathlib.Core.List.{List, [], _∷_}
+use Prim.Native.Nat.{ℕ, zero, suc, _+_, _*_, _/_, _≤_, _<_}
+use native.Mathlib.Nat.{le-refl}
+use native.Mathlib.Omega.{arith}
+use lib.ListN.{length, getD}
+use lib.Seq.{ext-getD}
+use Rattle.limits.specs.Limits.{largestPixel, mostSteps}
+use Rattle.kernel.specs.Offsets.{Offset, offsets, sumOver, weighted}
+use Rattle.kernel.specs.Molecule.{sumOf}
+use Rattle.kernel.specs.Sound.{Sound}
+use Rattle.kernel.specs.declared.Kernel.{Kernel}
+use Rattle.image.specs.Image.{entries}
+use Rattle.averaging.specs.Steps.{nearest}
+use Rattle.averaging.proofs.Images.{length-entries, entry}
+use Rattle.averaging.proofs.Averages.{average-at-most}
+use Rattle.row_core.specs.Prepared.{reciprocalOne, reciprocalOf, kernelWith, Prepared, StandsFor}
+use Rattle.row_core.specs.Rows.{pixelIn, Pixels}
+use Rattle.row_core.specs.declared.Coefficients.{Coefficients}
+use Rattle.row_core.specs.declared.Column.{Column}
+use Rattle.row_core.proofs.Division.{divided, divided-below}
+
+-- ---- a division by the sum of the weights
+module _ (c : Coefficients) (prepared : Prepared c) (total : ℕ) (most : total ≤ kernelWith c .sum * largestPixel) where
+  bound : total + c .half < (largestPixel + 1) * sumOf (prepared .steps)
+  bound = omega (arith, most, prepared .sound .sum, prepared .sound .low)
+
+  pub exact : (total + c .half) / sumOf 1 * c .reciprocal / reciprocalOne ≡ nearest total (kernelWith c .sum)
+  exact =
+      let half : 2 * c .half / 2 ≡ c .half = omega arith in
+      rw (prepared .reciprocal, divided (prepared .steps) (prepared .sound .low) (prepared .sound .high) (total + c .half) bound, half, prepared .sound .sum)
+
+  pub pixel : (total + c .half) / sumOf 1 * c .reciprocal / reciprocalOne < largestPixel + 1
+  pixel =
+      rw (prepared .reciprocal, divided (prepared .steps) (prepared .sound .low) (prepared .sound .high) (total + c .half) bound)
+      (divided-below (prepared .steps) (prepared .sound .low) (prepared .sound .high) (total + c .half) bound)
+
+-- ---- the sum of weight times pixel, of three columns
+pub most-weighted : (c : Coefficients) → Prepared c → (l m r : Column) → Pixels l → Pixels m → Pixels r
+    → weighted (pixelIn l m r) (kernelWith c .weights) ≤ kernelWith c .sum * largestPixel
+most-weighted c prepared l m r pl pm pr =
+    subst (λ (t : ℕ). weighted (pixelIn l m r) (kernelWith c .weights) ≤ t * largestPixel) (prepared .sound .whole ∙ sym (prepared .sound .sum))
+    (average-at-most (pixelIn l m r) largestPixel (kernelWith c .weights)
+    (pl .above, (pm .above, (pr .above, (pl .at, (pm .at, (pr .at, (pl .below, (pm .below, (pr .below, tt))))))))))
+
+-- ---- the coefficients of a kernel
+
+-- a weight is at most the total
+entry-le : (ds : List Offset) (ws : List ℕ) (i : ℕ) → length ws ≤ length ds → getD ws i 0 ≤ sumOver _+_ 0 (λ d w. w) ds ws
+entry-le [] [] i h = le-refl 0
+entry-le [] (w ∷ ws) i h = absurd (omega (arith, h))
+entry-le (d ∷ ds) [] i h = le-refl 0
+entry-le (d ∷ ds) (w ∷ ws) zero h = omega arith
+entry-le (d ∷ ds) (w ∷ ws) (suc i) h = omega (arith, entry-le ds ws i (omega arith))
+
+-- nine weights, each by its place
+nine : (ws : List ℕ) → length ws ≡ 9
+    → ws ≡ getD ws 0 0 ∷ getD ws 1 0 ∷ getD ws 2 0 ∷ getD ws 3 0 ∷ getD ws 4 0 ∷ getD ws 5 0 ∷ getD ws 6 0 ∷ getD ws 7 0 ∷ getD ws 8 0 ∷ []
+unfolding entries
+nine ws e =
+    let at : ℕ → ℕ = λ i. getD ws i 0 in
+    ext-getD 0 ws (entries 9 at) (e ∙ sym (length-entries 9 at)) (λ i l. sym (entry 9 at 0 i (omega (arith, l, e))))
+
+module _ (kernel : Kernel) (k : ℕ) (sound : Sound kernel k) where
+  pub weight-fits : (i : ℕ) → getD (kernel .weights) i 0 ≤ sumOf mostSteps
+  weight-fits i = omega (arith, entry-le offsets (kernel .weights) i (omega (arith, sound .nine)), sound .whole, sound .high)
+
+  -- the step count that the code finds
+  steps-are : kernel .sum / sumOf 1 ≡ k
+  steps-are = omega (arith, sound .sum)
+
+  -- five weights stand for nine, since opposite ones are equal
+  pub stands : (c : Coefficients)
+      → c .diagonal ≡ getD (kernel .weights) 0 0 → c .down ≡ getD (kernel .weights) 1 0 → c .across ≡ getD (kernel .weights) 2 0
+      → c .along ≡ getD (kernel .weights) 3 0 → c .centre ≡ getD (kernel .weights) 4 0
+      → c .half ≡ kernel .sum / sumOf 1 * (sumOf 1 / 2) → c .reciprocal ≡ reciprocalOf (kernel .sum / sumOf 1) → StandsFor kernel c
+  stands c diagonal down across along centre half reciprocal =
+      let weights : kernelWith c .weights ≡ kernel .weights
+      = rw (diagonal, down, across, along, centre) (sym (nine (kernel .weights) (sound .nine) ∙ rw (sound .diagonal, sound .down, sound .across, sound .along))) in
+      let is : kernelWith c ≡ kernel = ap₂ (λ ws s. record { weights = ws; sum = s }) weights (omega (arith, half, steps-are, sound .sum)) in
+      record {
+        is = is;
+        prepared = record { steps = k; sound = subst (λ (n : Kernel). Sound n k) (sym is) sound; reciprocal = reciprocal ∙ ap reciprocalOf steps-are };
+      }

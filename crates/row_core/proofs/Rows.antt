@@ -1,0 +1,159 @@
+-- A step by rows: the pixels around a place stand in the padded rows above, at and below it, and the rows that the row core
+-- makes from these are those of the step. Assumes nothing.
+use mathlib.Core.Path.{_≡_, refl, sym, ap, ap₂, _∙_}
+use mathlib.Core.List.{List, [], _∷_, _++_}
+use Prim.Native.Nat.{ℕ, zero, suc, _+_, _-_, _*_, _≤_, _<_, min}
+use native.Mathlib.Nat.{suc-mul, mul-le-mul-right}
+use native.Mathlib.Numerals.{add-one}
+use native.Mathlib.Omega.{arith}
+use lib.ListN.{length, getD, set, take, drop, length-drop}
+use lib.Seq.{length-take-le, take-suc-set, take-all, getD-take, getD-drop}
+use lib.IntN.{ℤ, pos, negsuc, _+ℤ_}
+use borrow.Author.Tests.{le-ltb}
+use Rattle.kernel.specs.Offsets.{Offset, offsets, sumOver, weighted}
+use Rattle.kernel.specs.declared.Kernel.{Kernel}
+use Rattle.image.specs.Image.{nearestPlace, pixelAt, entries, rows}
+use Rattle.averaging.specs.Steps.{nearest, weightedAt, stepOf}
+use Rattle.averaging.proofs.Averages.{Each}
+use Rattle.averaging.proofs.Images.{nearest-lt, length-entries, entry}
+use Rattle.row_core.specs.Rows.{part, paddedOf, columnOf, beside, pixelIn, rowOf}
+
+-- ---- places: the one before i, as the code counts it. Those at i and after it compute so.
+pub place-before : (n i : ℕ) → nearestPlace n (pos i +ℤ negsuc 0) ≡ min (i - 1) (n - 1)
+place-before n zero = omega arith
+place-before n (suc i) = rw (le-ltb (suc i) 1 (omega arith)) (omega arith)
+
+-- ---- parts of a list
+
+-- a part of n elements has n of them
+pub length-part : (i n : ℕ) (l : List ℕ) → i + n ≤ length l → length (part i n l) ≡ n
+length-part i n l h = length-take-le n (drop i l) (rw length-drop (omega arith))
+
+-- ---- lists that are filled from the front
+
+-- one more entry is stored
+pub store : (n : ℕ) (f : ℕ → ℕ) (o : List ℕ) {v : ℕ} → n < length o → take n o ≡ entries n f → v ≡ f n → take (n + 1) (set o n v) ≡ entries (n + 1) f
+unfolding entries
+store n f o l e ev = rw (add-one, take-suc-set, e, ev)
+
+-- and once all are, the list is the entries
+pub stored : (n m : ℕ) (f : ℕ → ℕ) (o : List ℕ) → length o ≡ n → n ≡ m → take n o ≡ entries n f → o ≡ entries m f
+stored n m f o l g e = sym (take-all n o (omega arith)) ∙ e ∙ ap (λ (i : ℕ). entries i f) g
+
+-- entries that agree below n
+same-entries : (n : ℕ) (f g : ℕ → ℕ) → ((i : ℕ) → i < n → f i ≡ g i) → entries n f ≡ entries n g
+unfolding entries
+same-entries zero f g same = refl
+same-entries (suc n) f g same = ap₂ (λ l v. l ++ (v ∷ [])) (same-entries n f g (λ i l. same i (omega arith))) (same n (omega arith))
+
+-- rows that agree below n
+same-rows : (n : ℕ) (f g : ℕ → List ℕ) → ((y : ℕ) → y < n → f y ≡ g y) → rows n f ≡ rows n g
+unfolding rows
+same-rows zero f g same = refl
+same-rows (suc n) f g same = ap₂ _++_ (same-rows n f g (λ y l. same y (omega arith))) (same n (omega arith))
+
+-- ---- averages of the same values are the same
+same-over : (p q : Offset → ℕ) (ds : List Offset) (ws : List ℕ) → Each (λ d. p d ≡ q d) ds
+    → sumOver _+_ 0 (λ d w. w * p d) ds ws ≡ sumOver _+_ 0 (λ d w. w * q d) ds ws
+same-over p q [] ws h = refl
+same-over p q (d ∷ ds) [] h = refl
+same-over p q (d ∷ ds) (w ∷ ws) h = ap₂ _+_ (ap (λ v. w * v) (h .0)) (same-over p q ds ws (h .1))
+
+same-average : (p q : Offset → ℕ) (ws : List ℕ) → Each (λ d. p d ≡ q d) offsets → weighted p ws ≡ weighted q ws
+same-average p q ws h = same-over p q offsets ws h
+
+-- ---- padded rows
+
+-- what stands at a place of a padded row
+padded-at : (r : List ℕ) (i : ℕ) → i < length r + 2 → getD (paddedOf r) i 0 ≡ getD r (min (i - 1) (length r - 1)) 0
+unfolding paddedOf
+padded-at r i l =
+    entry (length r + 2) (λ i. getD r (nearestPlace (length r) (pos i +ℤ negsuc 0)) 0) 0 i l
+    ∙ ap (λ j. getD r j 0) (place-before (length r) i)
+
+pub length-padded : (r : List ℕ) → length (paddedOf r) ≡ length r + 2
+unfolding paddedOf
+length-padded r = length-entries _ _
+
+-- ---- the pixels around a place
+
+-- those around column x of three rows a, b, c of w pixels
+abbrev aroundColumn : ℕ → List ℕ → List ℕ → List ℕ → ℕ → Offset → ℕ
+aroundColumn w a b c x d = getD (beside a b c (d .dy)) (nearestPlace w (pos x +ℤ d .dx)) 0
+
+-- in an image, where a, b and c are the rows above, at and below row y
+in-image : (w h : ℕ) (pixels : List ℕ) (y : ℕ) (a b c : List ℕ) → 1 ≤ w
+    → part (nearestPlace h (pos y +ℤ negsuc 0) * w) w pixels ≡ a
+    → part (nearestPlace h (pos y +ℤ pos 0) * w) w pixels ≡ b
+    → part (nearestPlace h (pos y +ℤ pos 1) * w) w pixels ≡ c
+    → (ws : List ℕ) (x : ℕ) → weightedAt ws w h pixels x y ≡ weighted (aroundColumn w a b c x) ws
+unfolding weightedAt pixelAt
+in-image w h pixels y a b c some ea eb ec ws x =
+    let up = in-row a (negsuc 0) ea in
+    let here = in-row b (pos 0) eb in
+    let down = in-row c (pos 1) ec in
+    same-average (λ d. pixelAt w h pixels (pos x +ℤ d .dx) (pos y +ℤ d .dy)) (aroundColumn w a b c x) ws
+    (up (negsuc 0), (up (pos 0), (up (pos 1), (here (negsuc 0), (here (pos 0), (here (pos 1), (down (negsuc 0), (down (pos 0), (down (pos 1), tt)))))))))
+  where
+    in-row : (r : List ℕ) (dy : ℤ) → part (nearestPlace h (pos y +ℤ dy) * w) w pixels ≡ r
+        → (dx : ℤ) → pixelAt w h pixels (pos x +ℤ dx) (pos y +ℤ dy) ≡ getD r (nearestPlace w (pos x +ℤ dx)) 0
+    in-row r dy e dx =
+        let i = nearestPlace w (pos x +ℤ dx) in
+        let j = nearestPlace h (pos y +ℤ dy) * w in
+        sym (getD-take w (drop j pixels) i 0 (nearest-lt w (pos x +ℤ dx) some) ∙ getD-drop j pixels i 0) ∙ ap (λ l. getD l i 0) e
+
+-- in the padded rows, where they are the three columns from x on
+in-lines : (w : ℕ) (a b c : List ℕ) → length a ≡ w → length b ≡ w → length c ≡ w → (ws : List ℕ) (x : ℕ) → x < w
+    → weighted (pixelIn (columnOf (paddedOf a) (paddedOf b) (paddedOf c) x) (columnOf (paddedOf a) (paddedOf b) (paddedOf c) (x + 1)) (columnOf (paddedOf a) (paddedOf b) (paddedOf c) (x + 2))) ws
+    ≡ weighted (aroundColumn w a b c x) ws
+in-lines w a b c la lb lc ws x l =
+    same-average (pixelIn (columnOf (paddedOf a) (paddedOf b) (paddedOf c) x) (columnOf (paddedOf a) (paddedOf b) (paddedOf c) (x + 1)) (columnOf (paddedOf a) (paddedOf b) (paddedOf c) (x + 2)))
+    (aroundColumn w a b c x) ws
+    (left a la, (here a la, (right a la, (left b lb, (here b lb, (right b lb, (left c lc, (here c lc, (right c lc, tt)))))))))
+  where
+    at : (r : List ℕ) → length r ≡ w → (i j : ℕ) → i < w + 2 → j ≡ min (i - 1) (w - 1) → getD (paddedOf r) i 0 ≡ getD r j 0
+    at r lr i j li e = padded-at r i (omega arith) ∙ ap (λ j. getD r j 0) (omega arith)
+
+    left : (r : List ℕ) → length r ≡ w → getD (paddedOf r) x 0 ≡ getD r (nearestPlace w (pos x +ℤ negsuc 0)) 0
+    left r lr = at r lr x (nearestPlace w (pos x +ℤ negsuc 0)) (omega arith) (place-before w x)
+
+    here : (r : List ℕ) → length r ≡ w → getD (paddedOf r) (x + 1) 0 ≡ getD r (nearestPlace w (pos x +ℤ pos 0)) 0
+    here r lr = at r lr (x + 1) (nearestPlace w (pos x +ℤ pos 0)) (omega arith) (omega arith)
+
+    right : (r : List ℕ) → length r ≡ w → getD (paddedOf r) (x + 2) 0 ≡ getD r (nearestPlace w (pos x +ℤ pos 1)) 0
+    right r lr = at r lr (x + 2) (nearestPlace w (pos x +ℤ pos 1)) (omega arith) (omega arith)
+
+-- ---- the rows of a step
+
+-- row y lies inside an image of h rows
+pub row-inside : (w h y : ℕ) → y < h → y * w + w ≤ w * h
+row-inside w h y l = omega (arith, suc-mul y w, mul-le-mul-right w l)
+
+pub length-row : (k : Kernel) (w : ℕ) (a b c : List ℕ) → length (rowOf k w a b c) ≡ w
+unfolding rowOf
+length-row k w a b c = length-entries w _
+
+-- row y of a step, from the rows nearest above, at and below y
+unfoldable pub lineOf : Kernel → ℕ → ℕ → List ℕ → ℕ → List ℕ
+lineOf k w h pixels y =
+    rowOf k w (paddedOf (part ((y - 1) * w) w pixels)) (paddedOf (part (y * w) w pixels)) (paddedOf (part (min (y + 1) (h - 1) * w) w pixels))
+
+module _ (k : Kernel) (w h : ℕ) (pixels : List ℕ) (some : 1 ≤ w) (size : length pixels ≡ w * h) where
+  long : (y : ℕ) → y < h → length (part (y * w) w pixels) ≡ w
+  long y l = length-part (y * w) w pixels (omega (arith, row-inside w h y l))
+
+  line : (y : ℕ) → y < h → entries w (λ x. nearest (weightedAt (k .weights) w h pixels x y) (k .sum)) ≡ lineOf k w h pixels y
+  unfolding rowOf lineOf
+  line y l =
+      let a = part ((y - 1) * w) w pixels in
+      let b = part (y * w) w pixels in
+      let c = part (min (y + 1) (h - 1) * w) w pixels in
+      let row : ℕ → List ℕ = λ j. part (j * w) w pixels in
+      same-entries w (λ x. nearest (weightedAt (k .weights) w h pixels x y) (k .sum)) _
+      (λ x lx. ap (λ s. nearest s (k .sum))
+      (in-image w h pixels y a b c some (ap row (place-before h y ∙ omega arith)) (ap row (omega arith)) refl (k .weights) x
+      ∙ sym (in-lines w a b c (long (y - 1) (omega arith)) (long y l) (long (min (y + 1) (h - 1)) (omega arith)) (k .weights) x lx)))
+
+  pub by-lines : rows h (lineOf k w h pixels) ≡ stepOf k w h pixels
+  unfolding stepOf
+  by-lines = sym (same-rows h (λ y. entries w (λ x. nearest (weightedAt (k .weights) w h pixels x y) (k .sum))) (lineOf k w h pixels) line)

@@ -1,0 +1,3 @@
+-- What the contracts of the row core and of the crates above it cite.
+pub mod Prepared
+pub mod Rows

@@ -1,0 +1,42 @@
+-- The kernel of a step, and the coefficients that stand for it in the code. Definitions only.
+use mathlib.Core.Path.{_≡_}
+use mathlib.Core.List.{[], _∷_}
+use Prim.Native.Nat.{ℕ, _+_, _-_, _*_, _/_, _^_}
+use Rattle.kernel.specs.Sound.{Sound}
+use Rattle.kernel.specs.declared.Kernel.{Kernel}
+use Rattle.row_core.specs.declared.Coefficients.{Coefficients}
+
+-- a kernel of some step count
+pub record StepKernel (kernel : Kernel) : Type 0 where
+  pub steps : ℕ
+  pub sound : Sound kernel steps
+
+-- what stands for 1 in a reciprocal: 28 binary places
+abbrev pub reciprocalOne : ℕ
+reciprocalOne = 2 ^ 28
+
+-- 1 over a step count, upward
+abbrev pub reciprocalOf : ℕ → ℕ
+reciprocalOf steps = (reciprocalOne + (steps - 1)) / steps
+
+-- five weights stand for nine
+abbrev pub kernelWith : Coefficients → Kernel
+kernelWith c =
+    record {
+      weights =
+          c .diagonal ∷ c .down ∷ c .across
+          ∷ c .along ∷ c .centre ∷ c .along
+          ∷ c .across ∷ c .down ∷ c .diagonal
+          ∷ [];
+      sum = 2 * c .half;
+    }
+
+-- they stand for a kernel of some step count, and the reciprocal is that step count's
+pub record Prepared (c : Coefficients) : Type 0 where
+  pub steps : ℕ
+  pub sound : Sound (kernelWith c) steps
+  pub reciprocal : c .reciprocal ≡ reciprocalOf steps
+
+pub record StandsFor (kernel : Kernel) (c : Coefficients) : Type 0 where
+  pub is : kernelWith c ≡ kernel
+  pub prepared : Prepared c

@@ -1,0 +1,58 @@
+-- One row of a step from three lines, each a row with a pixel more on both sides. Definitions only.
+use mathlib.Core.Path.{_≡_}
+use mathlib.Core.List.{List}
+use Prim.Native.Nat.{ℕ, zero, suc, _+_, _≤_}
+use lib.ListN.{length, getD, take, drop}
+use lib.IntN.{ℤ, pos, negsuc, _+ℤ_}
+use Rattle.limits.specs.Limits.{largestPixel}
+use Rattle.kernel.specs.Offsets.{Offset, weighted}
+use Rattle.kernel.specs.declared.Kernel.{Kernel}
+use Rattle.image.specs.Image.{nearestPlace, entries}
+use Rattle.averaging.specs.Steps.{nearest}
+use Rattle.row_core.specs.declared.Column.{Column}
+
+-- n elements from i on, as a row of an image
+abbrev pub part : ℕ → ℕ → List ℕ → List ℕ
+part i n l = take n (drop i l)
+
+-- the pixels of a row from the place before its first to the place after its last, "nearest outside"
+unfoldable pub paddedOf : List ℕ → List ℕ
+paddedOf row = entries (length row + 2) (λ i. getD row (nearestPlace (length row) (pos i +ℤ negsuc 0)) 0)
+
+abbrev pub columnOf : List ℕ → List ℕ → List ℕ → ℕ → Column
+columnOf up mid down x = record { above = getD up x 0; at = getD mid x 0; below = getD down x 0 }
+
+-- of three in a row, the one before the middle, at it or after it
+abbrev pub beside : {A : Type 0} → A → A → A → ℤ → A
+beside before at after (negsuc n) = before
+beside before at after (pos zero) = at
+beside before at after (pos (suc n)) = after
+
+-- the pixel at an offset from the middle of three columns
+abbrev pub pixelIn : Column → Column → Column → Offset → ℕ
+pixelIn left here right d =
+    beside (beside left here right (d .dx) .above) (beside left here right (d .dx) .at) (beside left here right (d .dx) .below) (d .dy)
+
+-- the row of w pixels that a step makes from three lines
+unfoldable pub rowOf : Kernel → ℕ → List ℕ → List ℕ → List ℕ → List ℕ
+rowOf k w up mid down =
+    entries w (λ x. nearest (weighted (pixelIn (columnOf up mid down x) (columnOf up mid down (x + 1)) (columnOf up mid down (x + 2))) (k .weights)) (k .sum))
+
+-- ---- what is a pixel
+
+pub record Pixels (c : Column) : Type 0 where
+  pub above : c .above ≤ largestPixel
+  pub at : c .at ≤ largestPixel
+  pub below : c .below ≤ largestPixel
+
+abbrev pub AllPixels : List ℕ → Type 0
+AllPixels l = (i : ℕ) → getD l i 0 ≤ largestPixel
+
+-- three lines for a row of w pixels
+pub record Lines (a b c : List ℕ) (w : ℕ) : Type 0 where
+  pub up : length a ≡ w + 2
+  pub mid : length b ≡ w + 2
+  pub down : length c ≡ w + 2
+  pub up-pixels : AllPixels a
+  pub mid-pixels : AllPixels b
+  pub down-pixels : AllPixels c

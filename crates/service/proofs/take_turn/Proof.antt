@@ -1,0 +1,130 @@
+-- `service::take_turn` meets its contract: refusal 2 is tested first, then the slot is looked for; its step is `step_slot`'s.
+-- Assumes nothing.
+use mathlib.Core.Path.{_≡_, refl, sym, _∙_, ap}
+use mathlib.Core.Bool.{true, _&&_}
+use Prim.Native.Nat.{ℕ, _<_}
+use native.Mathlib.Omega.{arith}
+use borrow.Author.Tests.{not-true, not-false, ltb-true}
+use lib.Dec.{eqb}
+use lib.ListN.{length}
+use Rattle.machine.specs.Calls.{servedPlace}
+use Rattle.machine.specs.declared.Found.the-variants.{At, Nothing}
+use Rattle.machine.specs.Slots.{slotCount, slotAt, hasStepsLeft, nextPlace, firstFrom}
+use Rattle.machine.specs.Store.{storeLength}
+use Rattle.machine.specs.Order.{inOrder}
+use Rattle.machine.proofs.Search as S
+use Rattle.machine.proofs.Orderly.{served-lt, left-filled, filled-slot}
+use Rattle.service.proofs.Laws.{usable-parts, tick-unusable, tick-found}
+use borrow.Author.Needs.{needs}
+use Rattle.service.proofs.take_turn.Statement.{statement}
+use Rattle.service.proofs.take_turn.Tie as tie
+
+usable-requires : tie.Need-usable-requires
+usable-requires c κs = search needs
+
+no-turn-requires : tie.Need-no-turn-requires
+no-turn-requires c κs = search needs
+
+returns : tie.Need-returns
+returns c =
+    let a = c .before .before .before .before .args in
+    let e = tick-unusable (a .t1) (a .store .now) (sym (c .before .before .usable .ensures) ∙ not-true _ (c .before .if1 .taken)) in
+    rw (c .no-turn .ensures, e) (record { answer-is = refl; service-is = refl; within = omega arith }, refl)
+
+cast-next-place : tie.Need-cast-next-place
+cast-next-place c = search needs
+
+-- where the record is usable
+good : (c : tie.Else1) → (inOrder (c .before .before .before .args .t1) && eqb (length (c .before .before .before .args .store .now)) storeLength) ≡ true
+good c = sym (c .before .usable .ensures) ∙ not-false _ (c .if1 .left)
+
+next-place-requires : tie.Need-next-place-requires
+next-place-requires c κs = let a = c .before .before .before .args in served-lt (a .t1) (usable-parts (a .t1) (a .store .now) (good c) .0)
+
+-- the slot that the search found
+module _ (c : tie.After-find) where
+  searched : c .find .result ≡ servedPlace (c .before .before .before .before .before .args .t1)
+  searched = c .find .ensures ∙ ap (λ (place : ℕ). firstFrom hasStepsLeft (c .before .before .before .before .before .args .t1 .slots) slotCount place slotCount) (c .before .next-place .ensures .0)
+
+module _ (c : tie.After-place) where
+  found : servedPlace (c .before .before .before .before .before .before .before .args .t1) ≡ At (c .place .given .0 .0)
+  found = sym (searched (c .before .before)) ∙ c .place .given .1
+
+  at : (c .place .given .0 .0 < slotCount) × (0 < slotAt (c .before .before .before .before .before .before .before .args .t1) (c .place .given .0 .0) .left)
+  at =
+      let r = c .before .before .before .before .before .before .before .args .t1 in
+      let w = S.found hasStepsLeft (r .slots) slotCount (omega arith) slotCount (nextPlace slotCount (r .served)) (c .place .given .0 .0) (S.next-lt slotCount (r .served) (omega arith)) found in
+      (w .0, ltb-true _ _ (w .1))
+
+find-requires : tie.Need-find-requires
+find-requires c κs = search needs
+
+enum-known-place : tie.Need-enum-known-place
+enum-known-place c = search needs
+
+mul-slot : tie.Need-mul-slot
+mul-slot c = let h = at (c .before) .0 in omega arith
+
+element-copy-out-slot : tie.Need-element-copy-out-slot
+element-copy-out-slot c = at (c .before) .0
+
+step-slot-requires : tie.Need-step-slot-requires
+step-slot-requires c κs =
+    let p = c .before .before .before in
+    let a = p .before .before .before .before .before .before .before .args in
+    let u = usable-parts (a .t1) (a .store .now) (good (p .before .before .before .before)) in
+    let h = at p in
+    record {
+      long = u .1;
+      at = h .0;
+      left = h .1;
+      last = a .t1 .last;
+      filled = filled-slot (a .t1) (u .0) (p .place .given .0 .0) (h .0) (left-filled (a .t1) (u .0) (p .place .given .0 .0) (h .0) (h .1));
+    }
+
+sub-t25 : tie.Need-sub-t25
+sub-t25 c = let h = at (c .before .before .before .before .before .before .before) .1 in omega arith
+
+enum-told : tie.Need-enum-told
+enum-told c = search needs
+
+no-turn-requires-2 : tie.Need-no-turn-requires-2
+no-turn-requires-2 c κs = search needs
+
+same-length : tie.Need-same-length
+same-length c = search needs
+
+returns-2 : tie.Need-returns-2
+returns-2 c =
+    let p = c .before .before .before .before .before .before .before in
+    let a = p .before .before .before .before .before .before .before .args in
+    let e = tick-found (a .t1) (a .store .now) (good (p .before .before .before .before)) (At (p .place .given .0 .0)) (found p) in
+    rw e (record { answer-is = refl; service-is = refl; within = at p .0 }, c .before .before .before .step-slot .ensures)
+
+returns-3 : tie.Need-returns-3
+returns-3 c =
+    let f = c .before .before .before in
+    let a = f .before .before .before .before .before .args in
+    let e = tick-found (a .t1) (a .store .now) (good (f .before .before)) Nothing (sym (searched f) ∙ c .before .enum-told .given .1) in
+    rw (c .no-turn2 .ensures, e) (record { answer-is = refl; service-is = refl; within = omega arith }, refl)
+
+pub take-turn-spec : {M : Type 1} → statement M
+take-turn-spec =
+    tie.close
+    (tie.spec
+    usable-requires
+    no-turn-requires
+    returns
+    cast-next-place
+    next-place-requires
+    find-requires
+    enum-known-place
+    mul-slot
+    element-copy-out-slot
+    step-slot-requires
+    sub-t25
+    enum-told
+    no-turn-requires-2
+    same-length
+    returns-2
+    returns-3)

@@ -1,0 +1,171 @@
+-- The slots whose numbers are new at their places are those whose numbers are unshared, for all eight together: a number that
+-- stands at a place occurs more often after it than before. Assumes nothing.
+use mathlib.Core.Path.{_≡_, refl, sym, _∙_}
+use mathlib.Core.Bool.{Bool, true, false, cond, _&&_}
+use mathlib.Core.List.{List}
+use Prim.Native.Nat.{ℕ, zero, suc, _+_, _<_, _≤_}
+use native.Mathlib.Numerals.{add-one}
+use native.Mathlib.Omega.{arith}
+use borrow.Author.Tests.{eq-eqb, ne-eqb, eqb-true, eqb-false}
+use lib.Dec.{eqb}
+use lib.ListN.{getD}
+use Rattle.limits.proofs.Laws.{both-true}
+use Rattle.machine.specs.declared.Service.{Service}
+use Rattle.machine.specs.Slots.{slotCount, slotAt, isEmpty, hasNumber, countOf, everySlot}
+use Rattle.machine.specs.Order.{allZero, filledFine, unshared, slotFine}
+use Rattle.slots.specs.Numbers.{numbersOf, occurrencesOf, slotFineAfter}
+
+-- ---- a test of the first n places
+unfoldable pub allBelow : (ℕ → Bool) → ℕ → Bool
+allBelow test zero = true
+allBelow test (suc n) = allBelow test n && test n
+
+pub all-more : (test : ℕ → Bool) (n : ℕ) → allBelow test (n + 1) ≡ (allBelow test n && test n)
+unfolding allBelow
+all-more test n = rw (add-one n)
+
+pub all-none : (test : ℕ → Bool) → allBelow test 0 ≡ true
+unfolding allBelow
+all-none test = refl
+
+all-each : (test : ℕ → Bool) (n i : ℕ) → i < n → allBelow test n ≡ true → test i ≡ true
+unfolding allBelow
+all-each test zero i h e = absurd (omega arith)
+all-each test (suc n) i h e = go (eqb i n) refl (all-each test n i)
+  where
+    go : (t : Bool) → eqb i n ≡ t → (i < n → allBelow test n ≡ true → test i ≡ true) → test i ≡ true
+    go true q f = rw (eqb-true i n q) (both-true (allBelow test n) (test n) e .1)
+    go false q f = let ne = eqb-false i n q in f (omega arith) (both-true (allBelow test n) (test n) e .0)
+
+all-made : (test : ℕ → Bool) (n : ℕ) → ((i : ℕ) → i < n → test i ≡ true) → allBelow test n ≡ true
+unfolding allBelow
+all-made test zero f = refl
+all-made test (suc n) f = rw (all-made test n (λ i h. f i (omega arith)), f n (omega arith))
+
+-- two tests, of which each passes all places where the other does
+same-all : (a b : ℕ → Bool) (n : ℕ)
+    → (((i : ℕ) → i < n → a i ≡ true) → (i : ℕ) → i < n → b i ≡ true)
+    → (((i : ℕ) → i < n → b i ≡ true) → (i : ℕ) → i < n → a i ≡ true)
+    → allBelow a n ≡ allBelow b n
+same-all a b n f g = go (allBelow a n) (allBelow b n) (λ e. all-made b n (f (λ i h. all-each a n i h e))) (λ e. all-made a n (g (λ i h. all-each b n i h e)))
+  where
+    go : (p q : Bool) → (p ≡ true → q ≡ true) → (q ≡ true → p ≡ true) → p ≡ q
+    go true q there back = sym (there refl)
+    go false true there back = back refl
+    go false false there back = refl
+
+-- ---- the count of a number
+module _ (numbers : List ℕ) (number : ℕ) where
+  pub occurs-none : (n : ℕ) → n ≤ 0 → occurrencesOf numbers number n ≡ 0
+  unfolding occurrencesOf
+  occurs-none zero h = refl
+  occurs-none (suc n) h = absurd (omega arith)
+
+  pub occurs-hit : (n m : ℕ) → m ≡ suc n → getD numbers n 0 ≡ number → occurrencesOf numbers number m ≡ occurrencesOf numbers number n + 1
+  unfolding occurrencesOf
+  occurs-hit n m q e = rw (q, eq-eqb (getD numbers n 0) number e)
+
+  pub occurs-miss : (n m : ℕ) → m ≡ suc n → (getD numbers n 0 ≡ number → ⊥) → occurrencesOf numbers number m ≡ occurrencesOf numbers number n
+  unfolding occurrencesOf
+  occurs-miss n m q e = rw (q, ne-eqb (getD numbers n 0) number e)
+
+  occurs-more : (n : ℕ) → occurrencesOf numbers number n ≤ occurrencesOf numbers number (suc n)
+  occurs-more n = go (eqb (getD numbers n 0) number) refl
+    where
+      go : (t : Bool) → eqb (getD numbers n 0) number ≡ t → occurrencesOf numbers number n ≤ occurrencesOf numbers number (suc n)
+      go true e = let q = occurs-hit n (suc n) refl (eqb-true (getD numbers n 0) number e) in omega arith
+      go false e = let q = occurs-miss n (suc n) refl (eqb-false (getD numbers n 0) number e) in omega arith
+
+  occurs-past : (i n : ℕ) → i < n → getD numbers i 0 ≡ number → occurrencesOf numbers number i < occurrencesOf numbers number n
+  occurs-past i zero h e = absurd (omega arith)
+  occurs-past i (suc n) h e = go (eqb i n) refl (occurs-past i n)
+    where
+      go : (t : Bool) → eqb i n ≡ t → (i < n → getD numbers i 0 ≡ number → occurrencesOf numbers number i < occurrencesOf numbers number n)
+          → occurrencesOf numbers number i < occurrencesOf numbers number (suc n)
+      go true q f = let here = occurs-hit i (suc n) (let s = eqb-true i n q in omega arith) e in omega arith
+      go false q f = let ne = eqb-false i n q in let less = f (omega arith) e in let more = occurs-more n in omega arith
+
+-- ---- the slots of a record
+-- a last test that passes where another does, of a filled slot
+in-place-of : (empty a b p q : Bool) → (empty ≡ false → p ≡ true → q ≡ true) → cond empty a (b && p) ≡ true → cond empty a (b && q) ≡ true
+in-place-of true a b p q f e = e
+in-place-of false a b p q f e = let w = both-true b p e in rw (w .0, f refl (w .1))
+
+module _ (r : Service) where
+  abbrev occurs : ℕ → ℕ → ℕ
+  occurs = occurrencesOf (numbersOf (r .slots))
+
+  abbrev fineAfter : ℕ → Bool
+  fineAfter i = slotFineAfter (r .last) (numbersOf (r .slots)) i (slotAt r i)
+
+  number-at : (i : ℕ) → i < slotCount → getD (numbersOf (r .slots)) i 0 ≡ slotAt r i .number
+  number-at zero h = refl
+  number-at (suc zero) h = refl
+  number-at (suc (suc zero)) h = refl
+  number-at (suc (suc (suc zero))) h = refl
+  number-at (suc (suc (suc (suc zero)))) h = refl
+  number-at (suc (suc (suc (suc (suc zero))))) h = refl
+  number-at (suc (suc (suc (suc (suc (suc zero)))))) h = refl
+  number-at (suc (suc (suc (suc (suc (suc (suc zero))))))) h = refl
+  number-at (suc (suc (suc (suc (suc (suc (suc (suc i)))))))) h = absurd (omega arith)
+
+  count-all : (n : ℕ) → countOf (hasNumber n) (r .slots) slotCount ≡ occurs n slotCount
+  unfolding countOf occurrencesOf
+  count-all n = refl
+
+  -- a number that stands once stands at no earlier place
+  once-after : (i : ℕ) → i < slotCount → slotFine r (slotAt r i) ≡ true → fineAfter i ≡ true
+  unfolding slotFine slotFineAfter
+  once-after i h =
+      let s = slotAt r i in
+      let n = s .number in
+      in-place-of (isEmpty s) (allZero s) (filledFine (r .last) s) (unshared (r .slots) s) (eqb (occurs n i) 0)
+      (λ z e.
+      let one = eqb-true (countOf (hasNumber n) (r .slots) slotCount) 1 e in
+      let all = count-all n in
+      let past = occurs-past (numbersOf (r .slots)) n i slotCount h (number-at i h) in
+      eq-eqb (occurs n i) 0 (omega arith))
+
+  module _ (after : (i : ℕ) → i < slotCount → fineAfter i ≡ true) where
+    none-before : (n i : ℕ) → i < slotCount → slotAt r i .number ≡ n → (n ≡ 0 → ⊥) → occurs n i ≡ 0
+    unfolding slotFineAfter
+    none-before n i h e ne =
+        let s = slotAt r i in
+        let new = eqb (occurs (s .number) i) 0 in
+        let both : (filledFine (r .last) s && new) ≡ true = rw (ne-eqb (s .number) 0 (λ z. ne (sym e ∙ z))) at (after i h) in
+        rw e at (eqb-true (occurs (s .number) i) 0 (both-true (filledFine (r .last) s) new both .1))
+
+    -- a later slot with the number of a filled one would have it again
+    one-past : (n i : ℕ) → slotAt r i .number ≡ n → (n ≡ 0 → ⊥) → (m : ℕ) → i < m → m ≤ slotCount → occurs n m ≡ 1
+    one-past n i e ne zero h k = absurd (omega arith)
+    one-past n i e ne (suc m) h k = go (eqb i m) refl (one-past n i e ne m)
+      where
+        go : (t : Bool) → eqb i m ≡ t → (i < m → m ≤ slotCount → occurs n m ≡ 1) → occurs n (suc m) ≡ 1
+        go true q f =
+            let same = eqb-true i m q in
+            let below : i < slotCount = omega arith in
+            let none = none-before n i below e ne in
+            let hit = occurs-hit (numbersOf (r .slots)) n i (suc m) (omega arith) (number-at i below ∙ e) in
+            omega arith
+        go false q f =
+            let apart = eqb-false i m q in
+            let one = f (omega arith) (omega arith) in
+            let below : m < slotCount = omega arith in
+            let miss = occurs-miss (numbersOf (r .slots)) n m (suc m) refl (λ z. let none = none-before n m below (sym (number-at m below) ∙ z) ne in omega arith) in
+            omega arith
+
+    after-once : (i : ℕ) → i < slotCount → slotFine r (slotAt r i) ≡ true
+    unfolding slotFine slotFineAfter
+    after-once i h =
+        let s = slotAt r i in
+        let n = s .number in
+        in-place-of (isEmpty s) (allZero s) (filledFine (r .last) s) (eqb (occurs n i) 0) (unshared (r .slots) s)
+        (λ z e.
+        let one = one-past n i refl (eqb-false n 0 z) slotCount h (omega arith) in
+        let all = count-all n in
+        eq-eqb (countOf (hasNumber n) (r .slots) slotCount) 1 (omega arith))
+        (after i h)
+
+  pub after-fine : allBelow (λ i. slotFineAfter (r .last) (numbersOf (r .slots)) i (slotAt r i)) slotCount ≡ everySlot (slotFine r) (r .slots) slotCount
+  unfolding allBelow everySlot
+  after-fine = same-all fineAfter (λ i. slotFine r (slotAt r i)) slotCount after-once (λ f i h. once-after i h (f i h))
