@@ -1,7 +1,7 @@
 /* What benchmarks/run.sh measures: calls of the proved library by the header, and the same smoothing in C in three forms. Each
  * function repeats its work, so that one call from the measuring program takes long enough to time. The kernel's nine weights
  * over their sum come from the library; opposite ones are equal, so that five multiplications serve, and the sum is
- * 16384 x steps, so that its division is a shift and a multiplication by a reciprocal. */
+ * 8192 x (2 x steps), so that its division is a shift and a multiplication by a reciprocal of 32 binary places. */
 #include "vokhsaot.h"
 
 struct coefficients {
@@ -11,9 +11,9 @@ struct coefficients {
 
 static struct coefficients coefficients_of(const uint64_t *numbers)
 {
-    uint64_t steps = numbers[0] / 16384;
+    uint64_t halves = numbers[0] / 8192;
     return (struct coefficients){
-        numbers[1], numbers[2], numbers[3], numbers[4], numbers[5], (268435456 + (steps - 1)) / steps, steps * 8192,
+        numbers[1], numbers[2], numbers[3], numbers[4], numbers[5], (4294967296 + (halves - 1)) / halves, numbers[0] / 2,
     };
 }
 
@@ -40,7 +40,7 @@ static inline uint16_t pixel(const uint16_t *up, const uint16_t *mid, const uint
     uint64_t total = (uint64_t)c.diagonal * ((uint32_t)up[l] + down[r]) + (uint64_t)c.down * ((uint32_t)up[x] + down[x]) +
                      (uint64_t)c.across * ((uint32_t)up[r] + down[l]) + (uint64_t)c.along * ((uint32_t)mid[l] + mid[r]) +
                      (uint64_t)c.centre * mid[x];
-    return (uint64_t)(uint32_t)((total + c.half) / 16384) * c.reciprocal / 268435456;
+    return (uint64_t)(uint32_t)((total + c.half) / 8192) * c.reciprocal / 4294967296;
 }
 
 static void indexed_step(const uint16_t *restrict source, uint16_t *restrict target, size_t width, size_t height,
@@ -76,7 +76,7 @@ static void smooth_row(const uint32_t *restrict up, const uint32_t *restrict mid
         uint64_t total = (uint64_t)c.diagonal * (up[x] + down[x + 2]) + (uint64_t)c.down * (up[x + 1] + down[x + 1]) +
                          (uint64_t)c.across * (up[x + 2] + down[x]) + (uint64_t)c.along * (mid[x] + mid[x + 2]) +
                          (uint64_t)c.centre * mid[x + 1];
-        out[x] = (uint64_t)(uint32_t)((total + c.half) / 16384) * c.reciprocal / 268435456;
+        out[x] = (uint64_t)(uint32_t)((total + c.half) / 8192) * c.reciprocal / 4294967296;
     }
 }
 

@@ -26,12 +26,12 @@ module _ (c : Coefficients) (prepared : Prepared c) (total : ℕ) (most : total 
   bound : total + c .half < (largestPixel + 1) * sumOf (prepared .steps)
   bound = omega (arith, most, prepared .sound .sum, prepared .sound .low)
 
-  pub exact : (total + c .half) / sumOf 1 * c .reciprocal / reciprocalOne ≡ nearest total (kernelWith c .sum)
+  pub exact : (total + c .half) / (sumOf 1 / 2) * c .reciprocal / reciprocalOne ≡ nearest total (kernelWith c .sum)
   exact =
       let half : 2 * c .half / 2 ≡ c .half = omega arith in
       rw (prepared .reciprocal, divided (prepared .steps) (prepared .sound .low) (prepared .sound .high) (total + c .half) bound, half, prepared .sound .sum)
 
-  pub pixel : (total + c .half) / sumOf 1 * c .reciprocal / reciprocalOne < largestPixel + 1
+  pub pixel : (total + c .half) / (sumOf 1 / 2) * c .reciprocal / reciprocalOne < largestPixel + 1
   pixel =
       rw (prepared .reciprocal, divided (prepared .steps) (prepared .sound .low) (prepared .sound .high) (total + c .half) bound)
       (divided-below (prepared .steps) (prepared .sound .low) (prepared .sound .high) (total + c .half) bound)
@@ -74,12 +74,12 @@ module _ (kernel : Kernel) (k : ℕ) (sound : Sound kernel k) where
   pub stands : (c : Coefficients)
       → c .diagonal ≡ getD (kernel .weights) 0 0 → c .down ≡ getD (kernel .weights) 1 0 → c .across ≡ getD (kernel .weights) 2 0
       → c .along ≡ getD (kernel .weights) 3 0 → c .centre ≡ getD (kernel .weights) 4 0
-      → c .half ≡ kernel .sum / sumOf 1 * (sumOf 1 / 2) → c .reciprocal ≡ reciprocalOf (kernel .sum / sumOf 1) → StandsFor kernel c
+      → c .half ≡ kernel .sum / sumOf 1 * (sumOf 1 / 2) → c .reciprocal ≡ reciprocalOf (kernel .sum / sumOf 1 * 2) → StandsFor kernel c
   stands c diagonal down across along centre half reciprocal =
       let weights : kernelWith c .weights ≡ kernel .weights
       = rw (diagonal, down, across, along, centre) (sym (nine (kernel .weights) (sound .nine) ∙ rw (sound .diagonal, sound .down, sound .across, sound .along))) in
       let is : kernelWith c ≡ kernel = ap₂ (λ ws s. record { weights = ws; sum = s }) weights (omega (arith, half, steps-are, sound .sum)) in
       record {
         is = is;
-        prepared = record { steps = k; sound = subst (λ (n : Kernel). Sound n k) (sym is) sound; reciprocal = reciprocal ∙ ap reciprocalOf steps-are };
+        prepared = record { steps = k; sound = subst (λ (n : Kernel). Sound n k) (sym is) sound; reciprocal = reciprocal ∙ ap reciprocalOf (omega (arith, steps-are)) };
       }

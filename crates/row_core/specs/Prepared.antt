@@ -11,13 +11,13 @@ pub record StepKernel (kernel : Kernel) : Type 0 where
   pub steps : ℕ
   pub sound : Sound kernel steps
 
--- what stands for 1 in a reciprocal: 28 binary places
+-- what stands for 1 in a reciprocal: 32 binary places
 abbrev pub reciprocalOne : ℕ
-reciprocalOne = 2 ^ 28
+reciprocalOne = 2 ^ 32
 
--- 1 over a step count, upward
+-- 1 over a number, upward
 abbrev pub reciprocalOf : ℕ → ℕ
-reciprocalOf steps = (reciprocalOne + (steps - 1)) / steps
+reciprocalOf n = (reciprocalOne + (n - 1)) / n
 
 -- five weights stand for nine
 abbrev pub kernelWith : Coefficients → Kernel
@@ -31,11 +31,11 @@ kernelWith c =
       sum = 2 * c .half;
     }
 
--- they stand for a kernel of some step count, and the reciprocal is that step count's
+-- they stand for a kernel of some step count, and the reciprocal is that of twice the step count
 pub record Prepared (c : Coefficients) : Type 0 where
   pub steps : ℕ
   pub sound : Sound (kernelWith c) steps
-  pub reciprocal : c .reciprocal ≡ reciprocalOf steps
+  pub reciprocal : c .reciprocal ≡ reciprocalOf (2 * steps)
 
 pub record StandsFor (kernel : Kernel) (c : Coefficients) : Type 0 where
   pub is : kernelWith c ≡ kernel

@@ -3,8 +3,8 @@
 //
 // A row stands in a line between its own first and last pixel: the nearest pixel outside is then a neighbour like any other,
 // and one loop without a branch makes a row. Pixels are widened there once, and weights fit 32 bits, so that the compiler
-// multiplies several at a time. The sum of weight times pixel is divided by 4 × M, which is 16384 × steps, by a shift and one
-// more multiplication.
+// multiplies several at a time. The sum of weight times pixel is divided by 4 × M, which is 8192 × (2 × steps), by a shift and
+// one more multiplication.
 ghost use mathlib.Core.Path.{_≡_};
 ghost use Prim.Native.Nat.{_+_, _*_, _≤_, _<_};
 ghost use lib.ListN.{length};
@@ -21,8 +21,9 @@ const SUM_PER_STEP: u64 = 16384;
 // Half of it.
 const HALF_PER_STEP: u64 = 8192;
 
-// What stands for 1 in the reciprocal of a step count: 2^28.
-const RECIPROCAL_ONE: u64 = 268435456;
+// What stands for 1 in the reciprocal of twice a step count: 2^32. The quotient is then the upper half of the product, which
+// the compiler takes without a shift; a step count itself would need 33 bits for the reciprocal of 1.
+const RECIPROCAL_ONE: u64 = 4294967296;
 
 // What every pixel of a step by one kernel is made with. Opposite weights are equal, so five stand for nine: each has the
 // name of its two offsets, and the last that of the centre.
@@ -34,7 +35,7 @@ pub struct Coefficients {
     pub centre: u32,
     // Half the sum of the nine weights: added before the division, it rounds to the nearest, halves up.
     pub half: u64,
-    // RECIPROCAL_ONE over the step count, upward.
+    // RECIPROCAL_ONE over twice the step count, upward.
     pub reciprocal: u32,
 }
 
@@ -51,7 +52,8 @@ pub fn coefficients_of(kernel: Kernel) -> Coefficients
 {
     let steps = kernel.sum / SUM_PER_STEP;
     let half = steps * HALF_PER_STEP;
-    let reciprocal = ((RECIPROCAL_ONE + (steps - 1)) / steps) as u32;
+    let halves = steps * 2;
+    let reciprocal = ((RECIPROCAL_ONE + (halves - 1)) / halves) as u32;
     let diagonal = kernel.weights[0] as u32;
     let down = kernel.weights[1] as u32;
     let across = kernel.weights[2] as u32;
@@ -102,14 +104,14 @@ fn weigh(weight: u32, first: u32, second: u32) -> u64
     (weight as u64) * ((first + second) as u64)
 }
 
-// A sum of weight times pixel over the sum of the weights, to the nearest, halves up. The first quotient has at most 22 bits;
+// A sum of weight times pixel over the sum of the weights, to the nearest, halves up. The first quotient has at most 23 bits;
 // to say that it fits 32 lets the compiler multiply it as it does the weights.
 fn divide(total: u64, coefficients: Coefficients) -> u16
     requires { ⌜ Prepared coefficients ⌝ }
     requires { ⌜ total ≤ kernelWith coefficients .sum * largestPixel ⌝ }
     ensures { λ r. ⌜ r ≡ nearest total (kernelWith coefficients .sum) ⌝ }
 {
-    let quotient = ((total + coefficients.half) / SUM_PER_STEP) as u32;
+    let quotient = ((total + coefficients.half) / HALF_PER_STEP) as u32;
     ((quotient as u64) * (coefficients.reciprocal as u64) / RECIPROCAL_ONE) as u16
 }
 

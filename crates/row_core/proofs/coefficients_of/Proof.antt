@@ -2,11 +2,11 @@
 -- steps, and five of them stand for nine. Assumes nothing.
 use mathlib.Core.Path.{refl}
 use Prim.Native.Nat.{ℕ}
-use native.Mathlib.Nat.{lt-of-le-of-lt, div-le-self}
 use native.Mathlib.Omega.{arith}
 use lib.ListN.{getD}
 use mir.Syntax.{w32}
 use mir.Val.{Fits}
+use Rattle.row_core.proofs.Division.{reciprocal-below}
 use Rattle.row_core.proofs.Averages.{weight-fits, stands}
 use borrow.Author.Needs.{needs}
 use Rattle.row_core.proofs.coefficients_of.Statement.{statement}
@@ -19,6 +19,9 @@ weight-cast s i = record { fits = omega (arith, weight-fits (s .args .t1) (s .pr
 mul-half : tie.Need-mul-half
 mul-half c = search needs
 
+mul-halves : tie.Need-mul-halves
+mul-halves c = search needs
+
 sub-reciprocal : tie.Need-sub-reciprocal
 sub-reciprocal c = search needs
 
@@ -29,7 +32,7 @@ div-reciprocal : tie.Need-div-reciprocal
 div-reciprocal c = search needs
 
 cast-reciprocal : tie.Need-cast-reciprocal
-cast-reciprocal c = record { fits = lt-of-le-of-lt (div-le-self _ _) (omega (arith, c .pre .sound .sum, c .pre .sound .high)) }
+cast-reciprocal c = record { fits = reciprocal-below _ (omega (arith, c .pre .sound .sum, c .pre .sound .low)) }
 
 element-copy-out-diagonal : tie.Need-element-copy-out-diagonal
 element-copy-out-diagonal c = search needs
@@ -71,6 +74,7 @@ coefficients-of-spec =
     tie.close
     (tie.spec
     mul-half
+    mul-halves
     sub-reciprocal
     add-reciprocal
     div-reciprocal

@@ -1,5 +1,5 @@
--- `row_core::divide` meets its contract: the first quotient is below 2^22, and times the reciprocal it gives the quotient by the
--- step count, which is a pixel. Assumes nothing.
+-- `row_core::divide` meets its contract: the first quotient is below 2^23, and times the reciprocal it gives the quotient by
+-- twice the step count, which is a pixel. Assumes nothing.
 use native.Mathlib.Omega.{arith}
 use Rattle.row_core.proofs.Division.{product-below}
 use Rattle.row_core.proofs.Averages.{exact, pixel}
