@@ -9,6 +9,7 @@ ghost use Rattle.row_core.specs.Prepared.{StepKernel};
 ghost use Rattle.machine.specs.Store.{part, put};
 ghost use Rattle.buffers.specs.Places.{Between};
 use kernel::Kernel;
+use limits::BUFFER_PIXELS;
 
 fn copy(source: &[u16], target: &mut [u16])
     requires { ⌜ length (now source) ≡ length (now target) ⌝ }
@@ -40,10 +41,10 @@ pub fn copy_out(store: &[u16], start: usize, pixels: &mut [u16])
 }
 
 // An array made where it is used would stand in every goal, element by element.
-fn blank_buffer() -> [u16; 1024]
+fn blank_buffer() -> [u16; BUFFER_PIXELS]
     ensures { λ r. ⌜ length r ≡ bufferPixels ⌝ }
 {
-    [0; 1024]
+    [0; BUFFER_PIXELS]
 }
 
 // One step of the picture at one place of the store, to another place, by way of a copy.

@@ -7,12 +7,10 @@ use Rattle.limits.specs.Errors.{Check, _otherwise_, firstRefusal, numberOf}
 use Rattle.limits.specs.declared.Outcome.{Outcome}
 use Rattle.limits.specs.declared.ErrorCode.the-variants.{VarianceOutOfRange, NotADirection, StepsOutOfRange, NoKernel}
 use Rattle.kernel.specs.declared.KernelAnswer.{KernelAnswer}
-use Rattle.kernel.specs.Molecule.{unitsOf, kernelOf}
-use Rattle.kernel.specs.Existence.{kernelExists}
 use Rattle.kernel.specs.Answer.{answerWith}
 use Rattle.covariance.specs.declared.Shape.{Shape}
 use Rattle.covariance.specs.declared.Covariance.{Covariance}
-use Rattle.covariance.specs.Shapes.{variancesFine, directionFine, covarianceXX, covarianceXY, covarianceYY}
+use Rattle.covariance.specs.Shapes.{variancesFine, directionFine, covarianceXX, covarianceXY, covarianceYY, shapeHasKernel, kernelOfShape}
 
 -- each answer's number in document 01, 0 where the shape is accepted, and the values that it carries
 abbrev pub covarianceNumber : Covariance → ℕ
@@ -44,9 +42,9 @@ shapeKernelChecks shape k =
     (variancesFine shape otherwise VarianceOutOfRange)
     ∷ (directionFine shape otherwise NotADirection)
     ∷ (stepsInRange k otherwise StepsOutOfRange)
-    ∷ (kernelExists (covarianceXX shape) (covarianceXY shape) (covarianceYY shape) (unitsOf k) otherwise NoKernel)
+    ∷ (shapeHasKernel shape k otherwise NoKernel)
     ∷ []
 
 abbrev pub shapeKernelAnswer : Shape → ℕ → KernelAnswer
 shapeKernelAnswer shape k =
-    answerWith (firstRefusal (shapeKernelChecks shape k)) (kernelOf (covarianceXX shape) (covarianceXY shape) (covarianceYY shape) k)
+    answerWith (firstRefusal (shapeKernelChecks shape k)) (kernelOfShape shape k)

@@ -1,8 +1,12 @@
 -- Document 01, "Pictures and shapes": which shapes are accepted, and the covariance of each in 1/4096 square pixel.
 -- Definitions only.
 use mathlib.Core.Bool.{Bool, true, false, _&&_}
+use Prim.Native.Nat.{ℕ}
 use lib.IntN.{ℤ, pos, negsuc}
 use lib.Ieee.{Float, fin}
+use Rattle.kernel.specs.declared.Kernel.{Kernel}
+use Rattle.kernel.specs.Molecule.{unitsOf, kernelOf}
+use Rattle.kernel.specs.Existence.{kernelExists}
 use Rattle.covariance.specs.declared.Direction.{Direction}
 use Rattle.covariance.specs.declared.Shape.{Shape}
 use Rattle.covariance.specs.declared.Shape.the-variants.{Matrix, Round, Oval}
@@ -64,3 +68,10 @@ unfoldable pub covarianceYY : Shape → ℤ
 covarianceYY (Matrix xx xy yy) = yy
 covarianceYY (Round variance) = nearestUnits variance
 covarianceYY (Oval long short direction) = nearestUnits (ovalYY long short direction)
+
+-- "Public calls take a shape and a step count": whether there is a kernel of them (refusal 11 is its failure), and the kernel
+abbrev pub shapeHasKernel : Shape → ℕ → Bool
+shapeHasKernel shape k = kernelExists (covarianceXX shape) (covarianceXY shape) (covarianceYY shape) (unitsOf k)
+
+abbrev pub kernelOfShape : Shape → ℕ → Kernel
+kernelOfShape shape k = kernelOf (covarianceXX shape) (covarianceXY shape) (covarianceYY shape) k

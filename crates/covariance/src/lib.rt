@@ -5,16 +5,13 @@ ghost use mathlib.Core.Path.{_≡_};
 ghost use mathlib.Core.Bool.{true};
 ghost use Prim.Native.Nat.{_+_, _≤_};
 ghost use lib.IntN.{pos, negℤ};
-ghost use Rattle.kernel.specs.Answer.{noKernel};
 ghost use Rattle.covariance.specs.Floats.{inRange};
 ghost use Rattle.covariance.specs.Units.{nearestUnits};
 ghost use Rattle.covariance.specs.Cuts.{Within, UpTo, wholeBelow, wholeAbove, mostSquares, mostUnits, mostHalves};
 ghost use Rattle.covariance.specs.Shapes.{varianceInRange, directionInRange, variancesFine, directionFine, ovalXX, ovalXY, ovalYY};
 ghost use Rattle.covariance.specs.Answer.{entriesOf, covarianceAnswer, shapeKernelAnswer};
-use kernel::Kernel;
 use kernel::KernelAnswer;
 use limits::ErrorCode;
-use limits::Outcome;
 
 // Document 01's direction: a cosine c and a sine s.
 pub struct Direction {
@@ -35,6 +32,9 @@ pub enum Covariance {
     Entries(i32, i32, i32),
     Refused(ErrorCode),
 }
+
+// In a square pixel.
+const HALF_UNITS: f64 = 8192.0;
 
 fn nonnegative(size: u64) -> i32
     requires { ⌜ size ≤ mostUnits ⌝ }
@@ -70,7 +70,7 @@ fn nearest_units(squares: f64) -> i32
     requires { ⌜ Within mostSquares squares ⌝ }
     ensures { λ r. ⌜ r ≡ nearestUnits squares ⌝ }
 {
-    let halves = squares * 8192.0;
+    let halves = squares * HALF_UNITS;
     if halves < 0.0 {
         negated(ceiling(-halves) / 2)
     } else {
@@ -194,24 +194,12 @@ pub fn covariance_of(shape: Shape) -> Covariance
     entries_of(shape)
 }
 
-fn refused(code: ErrorCode) -> KernelAnswer
-    ensures { λ r. ⌜ r ≡ record { outcome = Outcome.Refused code; kernel = noKernel } ⌝ }
-{
-    KernelAnswer {
-        outcome: Outcome::Refused(code),
-        kernel: Kernel {
-            weights: [0; 9],
-            sum: 0,
-        },
-    }
-}
-
 // The kernel of a shape and a step count, or refusal 3, 4, 5 or 11, the first that applies in that order.
 pub fn kernel_of_shape(shape: Shape, steps: u32) -> KernelAnswer
     ensures { λ r. ⌜ r ≡ shapeKernelAnswer shape steps ⌝ }
 {
     match covariance_of(shape) {
         Covariance::Entries(xx, xy, yy) => kernel::kernel_of(xx, xy, yy, steps),
-        Covariance::Refused(code) => refused(code),
+        Covariance::Refused(code) => kernel::refused(code),
     }
 }

@@ -1,11 +1,9 @@
--- What the calls answer, and what they leave in the lent result. Definitions only.
+-- The checks of the calls. Definitions only.
 use mathlib.Core.List.{List, [], _∷_}
 use Prim.Native.Nat.{ℕ}
 use Rattle.limits.specs.Limits.{sidesInRange, fillsPicture}
 use Rattle.limits.specs.Errors.{Check, _otherwise_}
 use Rattle.limits.specs.declared.ErrorCode.the-variants.{NotADirection, SideOutOfRange, WrongLength}
-use Rattle.limits.specs.declared.Outcome.{Outcome}
-use Rattle.limits.specs.declared.Outcome.the-variants.{Accepted, Refused}
 use Rattle.covariance.specs.declared.Direction.{Direction}
 use Rattle.covariance.specs.Shapes.{directionInRange}
 
@@ -20,9 +18,3 @@ differenceChecks picture result w h =
 -- refusals 4, 6 and 9, in checking order
 abbrev pub directionalChecks : Direction → ℕ → ℕ → ℕ → ℕ → List Check
 directionalChecks d picture result w h = (directionInRange d otherwise NotADirection) ∷ differenceChecks picture result w h
-
--- what the lent result holds at the end: what was made where the call is accepted, and else what it held ("every lent buffer
--- keep their contents")
-abbrev pub heldAfter : {A : Type 0} → Outcome → List A → List A → List A
-heldAfter Accepted made before = made
-heldAfter (Refused code) made before = before

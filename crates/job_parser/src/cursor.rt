@@ -8,6 +8,11 @@ ghost use Rattle.job_parser.specs.Job.{mostPositive, mostNegative};
 ghost use Rattle.job_parser.specs.Reading.{isDigit, readByte, readDigits, readNumber, readNegative, readSigned};
 ghost use Rattle.job_parser.specs.Found.{placeOf, fieldOf, signedOf};
 
+// The sizes of signed 32-bit numbers.
+const MOST_POSITIVE: u32 = 2147483647;
+
+const MOST_NEGATIVE: u32 = 2147483648;
+
 pub struct Cursor {
     pub at: usize,
 }
@@ -109,7 +114,7 @@ impl Cursor {
     fn negative_number(self, text: &[u8], end: u8) -> SignedField
         ensures { λ r. ⌜ r ≡ signedOf (now (text .entry)) (readNegative end (drop (self .at) (now (text .entry)))) ⌝ }
     {
-        let Field::Value(size, next) = self.number(text, 2147483648, end) else {
+        let Field::Value(size, next) = self.number(text, MOST_NEGATIVE, end) else {
             return SignedField::NoField;
         };
         if size == 0 {
@@ -129,7 +134,7 @@ impl Cursor {
         if text[at] == b'-' {
             return Cursor { at: at + 1 }.negative_number(text, end);
         }
-        let Field::Value(size, next) = self.number(text, 2147483647, end) else {
+        let Field::Value(size, next) = self.number(text, MOST_POSITIVE, end) else {
             return SignedField::NoField;
         };
         SignedField::Value(positive(size), next)

@@ -20,7 +20,12 @@ use cursor::Place;
 use cursor::SignedField;
 
 // Document 01: "at most 16,384 bytes".
-const LONGEST_TEXT: usize = 16384;
+pub const LONGEST_TEXT: usize = 16384;
+
+// As many pixels as such a text can hold: each takes at least a digit and a separator, and line one comes first.
+pub const MOST_PIXELS: usize = 8191;
+
+const LARGEST_PIXEL: u32 = 65535;
 
 // Line one of a job text.
 pub struct Header {
@@ -142,7 +147,7 @@ fn row_at(text: &[u8], start: Cursor, width: u32, pixels: &mut [u16], from: usiz
     let mut left = width;
     while 0 < left {
         left -= 1;
-        let Field::Value(pixel, after) = next.number(text, 65535, field_end(left)) else {
+        let Field::Value(pixel, after) = next.number(text, LARGEST_PIXEL, field_end(left)) else {
             return Place::Nowhere;
         };
         pixels[to] = pixel as u16;

@@ -15,7 +15,7 @@ pub fn kernel_divisor(kernel: Kernel) -> u64
 {
     let weights = kernel.weights;
     let mut found = kernel.sum;
-    for i in 0..9 {
+    for i in 0..kernel::WEIGHTS {
         found = divisor(weights[i], found);
     }
     found

@@ -132,7 +132,7 @@ pub fn put_picture(out: &mut [u8], at: usize, pixels: &[u16], width: u32, height
 }
 
 // Nine weights, each divided.
-fn put_weights(out: &mut [u8], at: usize, weights: [u64; 9], divisor: u64) -> usize
+fn put_weights(out: &mut [u8], at: usize, weights: [u64; kernel::WEIGHTS], divisor: u64) -> usize
     requires { ⌜ 0 < divisor ⌝ }
     requires { ⌜ at + length (line (map numeral (quotients divisor weights))) ≤ length (now out) ⌝ }
     ensures { λ r. ⌜ Wrote (now (out .entry)) at (line (map numeral (quotients divisor weights))) (now (out .exit)) r ⌝ }

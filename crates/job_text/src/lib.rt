@@ -1,6 +1,5 @@
 // The bench program's work: a job text in, the kernel and the smoothed picture or a refusal out, as text. job_parser reads the
-// job, job_printer writes the answer, and the job runs between two pictures of this library's own. Each pixel of a text takes
-// at least a digit and a separator, and line one comes first, so that no text of 16,384 bytes has more than 8,191 pixels.
+// job, job_printer writes the answer, and the job runs between two pictures of this library's own.
 ghost use mathlib.Core.Path.{_≡_};
 ghost use Prim.Native.Nat.{_*_, _≤_};
 ghost use lib.ListN.{length};
@@ -11,10 +10,12 @@ ghost use Rattle.job_text.specs.Answer.{jobChecks, shownText, jobAnswer,
 use covariance::Shape;
 use job_parser::Header;
 use job_parser::JobText;
+use job_parser::MOST_PIXELS;
 use limits::ErrorCode;
 use limits::Outcome;
 
-const MOST_BYTES: usize = 49240;
+// As many bytes as an answer can have (specs/Answer.antt `mostBytes`).
+pub const MOST_BYTES: usize = 49240;
 
 // What was printed: so many bytes at the start of the lent buffer, or nothing.
 pub enum Printed {
@@ -22,10 +23,10 @@ pub enum Printed {
     Refused(ErrorCode),
 }
 
-fn blank_picture() -> [u16; 8191]
+fn blank_picture() -> [u16; MOST_PIXELS]
     ensures { λ r. ⌜ length r ≡ mostPixels ⌝ }
 {
-    [0; 8191]
+    [0; MOST_PIXELS]
 }
 
 // The kernel of a job that no check refuses, and the picture after its steps.

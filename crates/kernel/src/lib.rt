@@ -10,9 +10,11 @@ ghost use Rattle.kernel.specs.Answer.{noKernel, kernelAnswer, magnitudeO
 use limits::ErrorCode;
 use limits::Outcome;
 
+pub const WEIGHTS: usize = 9;
+
 // Nine weights by row and then by column, and their sum.
 pub struct Kernel {
-    pub weights: [u64; 9],
+    pub weights: [u64; WEIGHTS],
     pub sum: u64,
 }
 
@@ -44,13 +46,13 @@ fn size_and_sign(v: i32) -> Magnitude
     }
 }
 
-fn refused(code: ErrorCode) -> KernelAnswer
+pub fn refused(code: ErrorCode) -> KernelAnswer
     ensures { λ r. ⌜ r ≡ record { outcome = Outcome.Refused code; kernel = noKernel } ⌝ }
 {
     KernelAnswer {
         outcome: Outcome::Refused(code),
         kernel: Kernel {
-            weights: [0; 9],
+            weights: [0; WEIGHTS],
             sum: 0,
         },
     }
@@ -112,7 +114,7 @@ fn kernel_from(xx: Magnitude, xy: Magnitude, yy: Magnitude, steps: u32) -> Kerne
     let a = xx.size;
     let b = yy.size;
     let c = xy.size;
-    let m = 4096 * (steps as u64);
+    let m = limits::UNITS_PER_SQUARE_PIXEL * (steps as u64);
     let f = free_number(a, c, b, m);
     if a < f {
         return refused(ErrorCode::NoKernel);

@@ -46,3 +46,9 @@ unless false refused rest = refused
 abbrev pub firstRefusal : List Check → Outcome
 firstRefusal [] = Accepted
 firstRefusal (check ∷ rest) = unless (check .holds) (Refused (check .code)) (firstRefusal rest)
+
+-- what a lent slice holds at the end: what was made where the call is accepted, and else what it held ("every lent buffer keep
+-- their contents")
+abbrev pub heldAfter : {A : Type 0} → Outcome → List A → List A → List A
+heldAfter Accepted made before = made
+heldAfter (Refused code) made before = before

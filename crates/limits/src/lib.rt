@@ -1,9 +1,19 @@
-// What every call shares: the error codes (document 01: refusals), the outcome of a call, and the checks on step counts,
-// sides and lengths that several calls make.
+// What every call shares: document 01's limits, the error codes (its refusals), the outcome of a call, and the checks on step
+// counts, sides and lengths that several calls make.
 ghost use mathlib.Core.Path.{_≡_};
 ghost use Prim.Native.Nat.{_*_};
+ghost use mathlib.Core.Bool.{_&&_};
 ghost use Rattle.limits.specs.Errors.{numberOf, outcomeNumber};
 ghost use Rattle.limits.specs.Limits.{withinOf, stepsInRange, sideInRange, sidesInRange, fillsPicture, fitsBuffer};
+
+// The numbers of specs/Limits; every crate above takes them from here.
+pub const UNITS_PER_SQUARE_PIXEL: u64 = 4096;
+
+pub const MOST_STEPS: u32 = 64;
+
+pub const LONGEST_SIDE: u32 = 1024;
+
+pub const BUFFER_PIXELS: usize = 1024;
 
 // Document 01's thirteen refusals, in its order; `numberOf` gives each its number.
 pub enum ErrorCode {
@@ -58,6 +68,13 @@ pub fn outcome_number(outcome: Outcome) -> u32
     }
 }
 
+// Whether both hold; the second is found out in any case.
+pub fn both(a: bool, b: bool) -> bool
+    ensures { λ r. ⌜ r ≡ (a && b) ⌝ }
+{
+    if a { b } else { false }
+}
+
 fn within(low: u32, high: u32, n: u32) -> bool
     ensures { λ r. ⌜ r ≡ withinOf low high n ⌝ }
 {
@@ -67,13 +84,13 @@ fn within(low: u32, high: u32, n: u32) -> bool
 pub fn steps_in_range(steps: u32) -> bool
     ensures { λ r. ⌜ r ≡ stepsInRange steps ⌝ }
 {
-    within(1, 64, steps)
+    within(1, MOST_STEPS, steps)
 }
 
 fn side_in_range(side: u32) -> bool
     ensures { λ r. ⌜ r ≡ sideInRange side ⌝ }
 {
-    within(1, 1024, side)
+    within(1, LONGEST_SIDE, side)
 }
 
 pub fn sides_in_range(width: u32, height: u32) -> bool
@@ -102,5 +119,5 @@ pub fn fills_picture(length: usize, width: u32, height: u32) -> bool
 pub fn fits_buffer(width: u32, height: u32) -> bool
     ensures { λ r. ⌜ r ≡ fitsBuffer width height ⌝ }
 {
-    area(width, height) <= 1024
+    area(width, height) <= BUFFER_PIXELS
 }

@@ -5,9 +5,8 @@ use mathlib.Core.List.{List, [], _∷_, _++_}
 use Prim.Native.Nat.{ℕ, _+_, _-_}
 use lib.Dec.{eqb}
 use Rattle.covariance.specs.declared.Shape.{Shape}
-use Rattle.covariance.specs.Shapes.{covarianceXX, covarianceXY, covarianceYY}
+use Rattle.covariance.specs.Shapes.{kernelOfShape}
 use Rattle.kernel.specs.declared.Kernel.{Kernel}
-use Rattle.kernel.specs.Molecule.{kernelOf}
 use Rattle.averaging.specs.Steps.{stepsOf, exactOf}
 use Rattle.machine.specs.declared.Service.{Service}
 use Rattle.machine.specs.declared.Answer.{Answer}
@@ -115,7 +114,7 @@ pub record Submitted : Type 0 where
   pub picture : List ℕ
 
 abbrev pub kernelOfJob : Submitted → Kernel
-kernelOfJob j = kernelOf (covarianceXX (j .shape)) (covarianceXY (j .shape)) (covarianceYY (j .shape)) (j .steps)
+kernelOfJob j = kernelOfShape (j .shape) (j .steps)
 
 -- "Alone it gets its picture after k steps of its kernel, each rounded as above"
 abbrev pub aloneAfter : Submitted → ℕ → List ℕ

@@ -2,6 +2,15 @@
 // list of calls keeps demand 3 is a theorem of proofs/; the running calls stand in the crate above.
 use limits::ErrorCode;
 
+// Document 01's eight seats, and the store: 16 buffers, two for each slot, of `limits::BUFFER_PIXELS`.
+pub const SLOTS: usize = 8;
+
+pub const BUFFERS: u32 = 16;
+
+pub const BUFFERS_PER_SLOT: u32 = 2;
+
+pub const STORE_PIXELS: usize = BUFFERS as usize * limits::BUFFER_PIXELS;
+
 // One of eight slots (document 01: a seat). Its number is 0 where it is empty, and then all of it is 0.
 pub struct Slot {
     pub number: u64,
@@ -16,7 +25,7 @@ pub struct Slot {
 
 // The service record: the slots, the last number given, the slot last filled and the slot last served.
 pub struct Service {
-    pub slots: [Slot; 8],
+    pub slots: [Slot; SLOTS],
     pub last: u64,
     pub filled: u32,
     pub served: u32,

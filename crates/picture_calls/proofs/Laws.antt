@@ -13,7 +13,7 @@ use mir.Syntax.{w32}
 use mir.Val.{SFits, toZ, ofZ}
 use mir.ValLaws.{toZ-ofZ}
 use Rattle.limits.specs.Limits.{stepsInRange}
-use Rattle.limits.specs.Errors.{_otherwise_, firstRefusal, outcomeNumber}
+use Rattle.limits.specs.Errors.{_otherwise_, firstRefusal, outcomeNumber, heldAfter}
 use Rattle.limits.specs.declared.ErrorCode.{ErrorCode}
 use Rattle.limits.specs.declared.ErrorCode.the-variants.{StepsOutOfRange, WrongLength, NoKernel}
 use Rattle.limits.specs.declared.Outcome.{Outcome}
@@ -25,11 +25,9 @@ use Rattle.kernel.specs.Answer.{answerWith}
 use Rattle.covariance.specs.declared.Covariance.{Covariance}
 use Rattle.covariance.specs.declared.Shape.{Shape}
 use Rattle.covariance.specs.declared.Shape.the-variants.{Matrix}
-use Rattle.covariance.specs.Shapes.{variancesFine, directionFine, covarianceXX, covarianceXY, covarianceYY}
+use Rattle.covariance.specs.Shapes.{variancesFine, directionFine, covarianceXX, covarianceXY, covarianceYY, kernelOfShape}
 use Rattle.covariance.specs.Answer.{covarianceAnswer, shapeKernelChecks, shapeKernelAnswer}
 use Rattle.covariance.proofs.Answers.{stopped}
-use Rattle.smoothing.specs.Runs.{kernelOfShape}
-use Rattle.differences.specs.Answers.{heldAfter}
 use Rattle.picture_calls.specs.Pictures.{entryCount, kernelCount, kernelWords, covarianceOutcome, kernelOutcome, kernelCode, kernelAfter}
 
 pub same-matrix : (xx xy yy : ℤ) → SFits w32 xx → SFits w32 xy → SFits w32 yy

@@ -7,22 +7,19 @@ use lib.IntN.{ℤ}
 use lib.Ieee.{Float}
 use lib.ListN.{length}
 use Rattle.limits.specs.Limits.{stepsInRange}
-use Rattle.limits.specs.Errors.{_otherwise_, firstRefusal, outcomeNumber}
+use Rattle.limits.specs.Errors.{_otherwise_, firstRefusal, outcomeNumber, heldAfter}
 use Rattle.limits.specs.declared.Outcome.{Outcome}
 use Rattle.limits.specs.declared.ErrorCode.the-variants.{VarianceOutOfRange, NotADirection, StepsOutOfRange, WrongLength, NoKernel}
 use Rattle.image.specs.declared.Reading.{Reading}
 use Rattle.image.specs.declared.Reading.the-variants.{Pixel, Refused}
 use Rattle.kernel.specs.declared.Kernel.{Kernel}
-use Rattle.kernel.specs.Molecule.{unitsOf}
-use Rattle.kernel.specs.Existence.{kernelExists}
 use Rattle.covariance.specs.declared.Direction.{Direction}
 use Rattle.covariance.specs.declared.Shape.{Shape}
-use Rattle.covariance.specs.Shapes.{variancesFine, directionFine, covarianceXX, covarianceXY, covarianceYY}
-use Rattle.smoothing.specs.Runs.{kernelOfShape}
+use Rattle.covariance.specs.Shapes.{variancesFine, directionFine, covarianceXX, covarianceXY, covarianceYY, shapeHasKernel, kernelOfShape}
 use Rattle.differences.specs.declared.Difference.{Difference}
 use Rattle.differences.specs.Stencils.{differencesOf}
 use Rattle.differences.specs.Directional.{directionalOf}
-use Rattle.differences.specs.Answers.{differenceChecks, directionalChecks, heldAfter}
+use Rattle.differences.specs.Answers.{differenceChecks, directionalChecks}
 
 -- ---- the covariance of a shape: a slice of three entries
 abbrev pub entryCount : ℕ
@@ -62,7 +59,7 @@ kernelOutcome shape k n =
     ∷ (directionFine shape otherwise NotADirection)
     ∷ (stepsInRange k otherwise StepsOutOfRange)
     ∷ (eqb n kernelCount otherwise WrongLength)
-    ∷ (kernelExists (covarianceXX shape) (covarianceXY shape) (covarianceYY shape) (unitsOf k) otherwise NoKernel)
+    ∷ (shapeHasKernel shape k otherwise NoKernel)
     ∷ [])
 
 unfoldable pub kernelCode : Shape → ℕ → List ℕ → ℕ

@@ -2,10 +2,9 @@
 // of its refusal, and a refusal changes nothing: lent slices and numbers then keep their contents.
 ghost use mathlib.Core.Path.{_≡_};
 ghost use lib.ListN.{length};
-ghost use Rattle.limits.specs.Errors.{outcomeNumber};
+ghost use Rattle.limits.specs.Errors.{outcomeNumber, heldAfter};
 ghost use Rattle.image.specs.Reading.{readingOf, readingNumber};
 ghost use Rattle.smoothing.specs.Runs.{runOf};
-ghost use Rattle.differences.specs.Answers.{heldAfter};
 ghost use Rattle.picture_calls.specs.Pictures.{kernelCount, kernelWords, covarianceCode, covarianceAfter, kernelCode, kernelAfter, differenceCode, differenceAfter, directionalCode, directionalAfter, pixelAfter};
 use covariance::Covariance;
 use covariance::Direction;
@@ -17,6 +16,11 @@ use kernel::KernelAnswer;
 use limits::ErrorCode;
 use limits::Outcome;
 
+// The entries of a covariance, and the words of a kernel: its sum and its weights.
+const ENTRIES: usize = 3;
+
+const KERNEL_WORDS: usize = 1 + kernel::WEIGHTS;
+
 // The covariance of a shape, written as xx, xy, yy in 1/4096 square pixel. Refusals 3, 4, and 9 where there are not 3 entries.
 pub fn write_covariance(shape: Shape, entries: &mut [i32]) -> u32
     ensures { λ r. ⌜ r ≡ covarianceCode shape (now (entries .entry)) ⌝ }
@@ -24,7 +28,7 @@ pub fn write_covariance(shape: Shape, entries: &mut [i32]) -> u32
 {
     match covariance::covariance_of(shape) {
         Covariance::Entries(xx, xy, yy) => {
-            if entries.len() != 3 {
+            if entries.len() != ENTRIES {
                 return limits::error_number(ErrorCode::WrongLength);
             }
             entries[0] = xx;
@@ -44,7 +48,7 @@ fn write_words(kernel: Kernel, words: &mut [u64])
     let weights = kernel.weights;
     words[0] = kernel.sum;
     let mut i = 0usize;
-    while i < 9 {
+    while i < kernel::WEIGHTS {
         words[i + 1] = weights[i];
         i += 1;
     }
@@ -77,7 +81,7 @@ pub fn write_kernel(shape: Shape, steps: u32, words: &mut [u64]) -> u32
             if !limits::steps_in_range(steps) {
                 return limits::error_number(ErrorCode::StepsOutOfRange);
             }
-            if words.len() != 10 {
+            if words.len() != KERNEL_WORDS {
                 return limits::error_number(ErrorCode::WrongLength);
             }
             write_answer(covariance::kernel_of_shape(shape, steps), words)

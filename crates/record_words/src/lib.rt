@@ -1,7 +1,7 @@
 // The service record as 67 words of 64 bits, for callers that have numbers and slices alone (specs/Words.antt). An inner crate:
 // reading and writing ask that the words hold a record and that there are 67 of them.
 ghost use mathlib.Core.Path.{_≡_};
-ghost use mathlib.Core.Bool.{_&&_, true};
+ghost use mathlib.Core.Bool.{true};
 ghost use Prim.Native.Nat.{_+_, _^_, _<_, _≤_};
 ghost use lib.Dec.{ltb};
 ghost use lib.ListN.{length, getD};
@@ -10,14 +10,23 @@ ghost use mir.Val.{toZ, ofZ};
 ghost use Rattle.machine.specs.Slots.{slotCount};
 ghost use Rattle.machine.specs.Store.{put};
 ghost use Rattle.record_words.specs.Words.{wordCount, slotWords, wordPlace, wordAt, slotFits, fieldsFit, slotOf, serviceOf, wordsOfSlot, withSlot, withSlots, withService, withTurn};
+use limits::both;
+use machine::SLOTS;
 use machine::Service;
 use machine::Slot;
 
-fn both(a: bool, b: bool) -> bool
-    ensures { λ r. ⌜ r ≡ (a && b) ⌝ }
-{
-    if a { b } else { false }
-}
+// The words of a record.
+pub const WORDS: usize = GIVEN + 3;
+
+// The words of one slot.
+const SLOT_WORDS: usize = 8;
+
+// Where the last words stand: the last number given, the slot last filled and the slot last served.
+const GIVEN: usize = SLOT_WORDS * SLOTS;
+
+const FILLED: usize = GIVEN + 1;
+
+const SERVED: usize = GIVEN + 2;
 
 // Whether a word is within 32 bits.
 fn narrow(words: &[u64], at: usize) -> bool
@@ -32,7 +41,7 @@ fn slot_fits(words: &[u64], place: usize) -> bool
     requires { ⌜ (length (now words) ≡ wordCount) × (place < slotCount) ⌝ }
     ensures { λ r. ⌜ r ≡ slotFits (now (words .entry)) place ⌝ }
 {
-    let first = 8 * place;
+    let first = SLOT_WORDS * place;
     let sizes = both(
         narrow(words, first + 4),
         both(
@@ -53,16 +62,16 @@ fn slot_fits(words: &[u64], place: usize) -> bool
 pub fn fields_fit(words: &[u64]) -> bool
     ensures { λ r. ⌜ r ≡ fieldsFit (now (words .entry)) ⌝ }
 {
-    if words.len() != 67 {
+    if words.len() != WORDS {
         return false;
     }
     let mut fine = true;
     let mut i = 0usize;
-    while i < 8 {
+    while i < SLOTS {
         fine = both(fine, slot_fits(words, i));
         i += 1;
     }
-    both(fine, both(narrow(words, 65), narrow(words, 66)))
+    both(fine, both(narrow(words, FILLED), narrow(words, SERVED)))
 }
 
 // A number of 32 bits as its two's complement.
@@ -92,7 +101,7 @@ fn number_at(words: &[u64], place: usize) -> u64
     requires { ⌜ (fieldsFit (now words) ≡ true) × (place ≤ slotCount) ⌝ }
     ensures { λ r. ⌜ r ≡ wordAt (now (words .entry)) place 0 ⌝ }
 {
-    words[8 * place]
+    words[SLOT_WORDS * place]
 }
 
 // A field of 32 bits.
@@ -100,7 +109,7 @@ fn field_at(words: &[u64], place: usize, field: usize) -> u32
     requires { ⌜ (fieldsFit (now words) ≡ true) × (1 ≤ field) × (field < slotWords) × (wordPlace place field < wordCount) ⌝ }
     ensures { λ r. ⌜ r ≡ wordAt (now (words .entry)) place field ⌝ }
 {
-    words[8 * place + field] as u32
+    words[SLOT_WORDS * place + field] as u32
 }
 
 fn slot_of(words: &[u64], place: usize) -> Slot
@@ -125,17 +134,17 @@ pub fn service_of(words: &[u64]) -> Service
     ensures { λ r. ⌜ r ≡ serviceOf (now (words .entry)) ⌝ }
 {
     let empty = slots::empty_slot();
-    let mut all = [empty; 8];
+    let mut all = [empty; SLOTS];
     let mut i = 0usize;
-    while i < 8 {
+    while i < SLOTS {
         all[i] = slot_of(words, i);
         i += 1;
     }
     Service {
         slots: all,
-        last: number_at(words, 8),
-        filled: field_at(words, 8, 1),
-        served: field_at(words, 8, 2),
+        last: number_at(words, SLOTS),
+        filled: field_at(words, SLOTS, 1),
+        served: field_at(words, SLOTS, 2),
     }
 }
 
@@ -146,7 +155,7 @@ fn wide(n: u32) -> u64
 }
 
 // A slot's eight words.
-fn slot_words(slot: Slot) -> [u64; 8]
+fn slot_words(slot: Slot) -> [u64; SLOT_WORDS]
     ensures { λ r. ⌜ r ≡ wordsOfSlot slot ⌝ }
 {
     [
@@ -185,7 +194,7 @@ fn write_slot(words: &mut [u64], place: usize, slot: Slot)
     ensures { λ _. ⌜ now (words .exit) ≡ withSlot place slot (now (words .entry)) ⌝ }
 {
     let numbers = slot_words(slot);
-    put_words(words, 8 * place, &numbers);
+    put_words(words, SLOT_WORDS * place, &numbers);
 }
 
 fn write_slots(words: &mut [u64], service: Service)
@@ -193,7 +202,7 @@ fn write_slots(words: &mut [u64], service: Service)
     ensures { λ _. ⌜ now (words .exit) ≡ withSlots service slotCount (now (words .entry)) ⌝ }
 {
     let mut i = 0usize;
-    while i < 8 {
+    while i < SLOTS {
         let slot = service.slots[i];
         write_slot(words, i, slot);
         i += 1;
@@ -207,7 +216,7 @@ pub fn write_service(words: &mut [u64], service: Service)
 {
     write_slots(words, service);
     let rest = [service.last, wide(service.filled), wide(service.served)];
-    put_words(words, 64, &rest);
+    put_words(words, GIVEN, &rest);
 }
 
 // The words after a tick, of which two change: the steps left of the slot that was served, and the slot last served.
@@ -215,6 +224,6 @@ pub fn write_turn(words: &mut [u64], place: usize, left: u32)
     requires { ⌜ (length (now words) ≡ wordCount) × (place < slotCount) ⌝ }
     ensures { λ _. ⌜ now (words .exit) ≡ withTurn place left (now (words .entry)) ⌝ }
 {
-    words[8 * place + 5] = wide(left);
-    words[66] = place as u64;
+    words[SLOT_WORDS * place + 5] = wide(left);
+    words[SERVED] = place as u64;
 }

@@ -16,10 +16,10 @@ ghost use Rattle.row_core.specs.Rows.{Pixels, Lines, columnOf, pixelIn, 
 use kernel::Kernel;
 
 // The sum of a kernel's weights, for each of its steps.
-const SUM_PER_STEP: u64 = 16384;
+const SUM_PER_STEP: u64 = 4 * limits::UNITS_PER_SQUARE_PIXEL;
 
 // Half of it.
-const HALF_PER_STEP: u64 = 8192;
+const HALF_PER_STEP: u64 = SUM_PER_STEP / 2;
 
 // What stands for 1 in the reciprocal of twice a step count: 2^32. The quotient is then the upper half of the product, which
 // the compiler takes without a shift; a step count itself would need 33 bits for the reciprocal of 1.

@@ -19,8 +19,11 @@ use covariance::Shape;
 use limits::ErrorCode;
 use limits::Outcome;
 use machine::Answer;
+use machine::BUFFERS;
+use machine::BUFFERS_PER_SLOT;
 use machine::Found;
 use machine::FreeCount;
+use machine::STORE_PIXELS;
 use machine::Service;
 use machine::Slot;
 use slots::Sought;
@@ -51,7 +54,7 @@ fn usable(service: Service, length: usize) -> bool
     ensures { λ r. ⌜ r ≡ (inOrder service && eqb length storeLength) ⌝ }
 {
     if slots::in_order(service) {
-        length == 16384
+        length == STORE_PIXELS
     } else {
         false
     }
@@ -69,7 +72,7 @@ pub fn free_count(service: Service) -> FreeCount
 fn free_buffers(service: Service) -> u32
     ensures { λ r. ⌜ r ≡ freeBuffers service ⌝ }
 {
-    16 - 2 * slots::tally(service, Sought::Filled)
+    BUFFERS - BUFFERS_PER_SLOT * slots::tally(service, Sought::Filled)
 }
 
 // The slot of a job, for a number that is not 0.
@@ -115,7 +118,7 @@ fn buffer_after(place: usize, done: usize) -> usize
     requires { ⌜ place < slotCount ⌝ }
     ensures { λ r. ⌜ r ≡ bufferAfter place done ⌝ }
 {
-    1024 * (2 * place + done % 2)
+    limits::BUFFER_PIXELS * (2 * place + done % 2)
 }
 
 // Refusals 5 to 13 of a submit, for the covariance of its shape.
@@ -152,10 +155,10 @@ fn job_checks(
 fn room_checks(service: Service) -> Outcome
     ensures { λ r. ⌜ r ≡ firstRefusal (roomChecks service) ⌝ }
 {
-    if free_buffers(service) < 2 {
+    if free_buffers(service) < BUFFERS_PER_SLOT {
         return Outcome::Refused(ErrorCode::NoFreeBuffers);
     }
-    if service.last < 18446744073709551615 {
+    if service.last < u64::MAX {
         return Outcome::Accepted;
     }
     Outcome::Refused(ErrorCode::NumbersUsedUp)

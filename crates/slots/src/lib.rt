@@ -12,9 +12,14 @@ ghost use Rattle.machine.specs.Order.{isZero, allZero, filledFine, inOrder as i
 ghost use Rattle.slots.specs.Sought.{testOf};
 ghost use Rattle.slots.specs.Numbers.{numbersOf, occurrencesOf, slotFineAfter};
 use limits::Outcome;
+use limits::both;
 use machine::Found;
+use machine::SLOTS;
 use machine::Service;
 use machine::Slot;
+
+// The slots as many as a field of the record counts them.
+const PLACES: u32 = SLOTS as u32;
 
 // What a search looks for.
 pub enum Sought {
@@ -43,7 +48,7 @@ pub fn opening() -> Service
     ensures { λ r. ⌜ r ≡ openingOf ⌝ }
 {
     let empty = empty_slot();
-    let slots = [empty; 8];
+    let slots = [empty; SLOTS];
     Service {
         slots,
         last: 0,
@@ -68,7 +73,7 @@ pub fn next_place(place: usize) -> usize
     requires { ⌜ place < slotCount ⌝ }
     ensures { λ r. ⌜ (r ≡ nextPlace slotCount place) × (r < slotCount) ⌝ }
 {
-    if place + 1 < 8 { place + 1 } else { 0 }
+    if place + 1 < SLOTS { place + 1 } else { 0 }
 }
 
 // The first slot that passes, counted on cyclically from a place.
@@ -77,7 +82,7 @@ pub fn find(service: Service, sought: Sought, start: usize) -> Found
     ensures { λ r. ⌜ r ≡ firstFrom (testOf sought) (service .slots) slotCount start slotCount ⌝ }
 {
     let mut place = start;
-    let mut more = 8usize;
+    let mut more = SLOTS;
     while 0 < more {
         let slot = service.slots[place];
         if passes(sought, slot) {
@@ -95,7 +100,7 @@ pub fn tally(service: Service, sought: Sought) -> u32
 {
     let mut count = 0u32;
     let mut i = 0usize;
-    while i < 8 {
+    while i < SLOTS {
         let slot = service.slots[i];
         if passes(sought, slot) {
             count += 1;
@@ -103,12 +108,6 @@ pub fn tally(service: Service, sought: Sought) -> u32
         i += 1;
     }
     count
-}
-
-fn both(a: bool, b: bool) -> bool
-    ensures { λ r. ⌜ r ≡ (a && b) ⌝ }
-{
-    if a { b } else { false }
 }
 
 fn is_zero(v: i32) -> bool
@@ -155,7 +154,7 @@ fn filled_fine(last: u64, slot: Slot) -> bool
 }
 
 // The numbers of the slots. They are handed on where the whole record would be copied for each slot.
-fn numbers_of(service: Service) -> [u64; 8]
+fn numbers_of(service: Service) -> [u64; SLOTS]
     ensures { λ r. ⌜ r ≡ numbersOf (service .slots) ⌝ }
 {
     let a = service.slots[0];
@@ -179,7 +178,7 @@ fn numbers_of(service: Service) -> [u64; 8]
 }
 
 // Whether a number is none of the first ones.
-fn is_new(numbers: [u64; 8], number: u64, places: usize) -> bool
+fn is_new(numbers: [u64; SLOTS], number: u64, places: usize) -> bool
     requires { ⌜ places ≤ slotCount ⌝ }
     ensures { λ r. ⌜ r ≡ eqb (occurrencesOf numbers number places) 0 ⌝ }
 {
@@ -194,7 +193,7 @@ fn is_new(numbers: [u64; 8], number: u64, places: usize) -> bool
 }
 
 // A number that no slot shares with an earlier one is shared with none.
-fn slot_fine(last: u64, numbers: [u64; 8], place: usize, slot: Slot) -> bool
+fn slot_fine(last: u64, numbers: [u64; SLOTS], place: usize, slot: Slot) -> bool
     requires { ⌜ place < slotCount ⌝ }
     ensures { λ r. ⌜ r ≡ slotFineAfter last numbers place slot ⌝ }
 {
@@ -211,10 +210,10 @@ pub fn in_order(service: Service) -> bool
     let numbers = numbers_of(service);
     let mut fine = true;
     let mut i = 0usize;
-    while i < 8 {
+    while i < SLOTS {
         let slot = service.slots[i];
         fine = both(fine, slot_fine(service.last, numbers, i, slot));
         i += 1;
     }
-    both(fine, both(service.filled < 8, service.served < 8))
+    both(fine, both(service.filled < PLACES, service.served < PLACES))
 }

@@ -19,12 +19,12 @@ use Rattle.kernel.specs.Answer.{answerWith, kernelAnswer}
 use Rattle.kernel.proofs.Theorems.{sound}
 use Rattle.covariance.specs.declared.Shape.{Shape}
 use Rattle.covariance.specs.declared.Covariance.{Covariance}
-use Rattle.covariance.specs.Shapes.{covarianceXX, covarianceXY, covarianceYY}
+use Rattle.covariance.specs.Shapes.{covarianceXX, covarianceXY, covarianceYY, kernelOfShape}
 use Rattle.covariance.specs.Answer.{covarianceAnswer}
 use Rattle.covariance.proofs.Answers.{Passed, stopped, kernel-passed}
 use Rattle.row_core.specs.Prepared.{StepKernel}
 use Rattle.stepping.specs.Step.{Filled}
-use Rattle.smoothing.specs.Runs.{runChecks, kernelOfShape, runWith}
+use Rattle.smoothing.specs.Runs.{runChecks, runWith}
 use Rattle.smoothing.specs.Shown.{shownChecks}
 use Rattle.limits.proofs.Checks.{refused-not-accepted, all-hold, in-turn}
 

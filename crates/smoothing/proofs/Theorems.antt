@@ -23,7 +23,8 @@ use Rattle.averaging.specs.Distances.{Entrywise, Distance}
 use Rattle.averaging.proofs.Runs.{length-steps}
 use Rattle.averaging.proofs.Distance.{distance}
 use Rattle.stepping.specs.Step.{Filled}
-use Rattle.smoothing.specs.Runs.{runChecks, kernelOfShape, isEven, stepsInFirst, stepsInSecond, runWith, runOf}
+use Rattle.covariance.specs.Shapes.{kernelOfShape}
+use Rattle.smoothing.specs.Runs.{runChecks, isEven, stepsInFirst, stepsInSecond, runWith, runOf}
 use Rattle.smoothing.specs.Shown.{shownChecks, shownOf}
 use Rattle.limits.proofs.Checks.{all-hold}
 use Rattle.smoothing.proofs.Runs.{filled, kernel-sound}

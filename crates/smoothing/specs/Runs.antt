@@ -10,10 +10,8 @@ use Rattle.limits.specs.declared.Outcome.{Outcome}
 use Rattle.limits.specs.declared.Outcome.the-variants.{Accepted, Refused}
 use Rattle.limits.specs.declared.ErrorCode.the-variants.{VarianceOutOfRange, NotADirection, StepsOutOfRange, SideOutOfRange, WrongLength, NoKernel}
 use Rattle.kernel.specs.declared.Kernel.{Kernel}
-use Rattle.kernel.specs.Molecule.{unitsOf, kernelOf}
-use Rattle.kernel.specs.Existence.{kernelExists}
 use Rattle.covariance.specs.declared.Shape.{Shape}
-use Rattle.covariance.specs.Shapes.{variancesFine, directionFine, covarianceXX, covarianceXY, covarianceYY}
+use Rattle.covariance.specs.Shapes.{variancesFine, directionFine, shapeHasKernel, kernelOfShape}
 use Rattle.averaging.specs.Steps.{stepsOf}
 
 -- refusals 3, 4, 5, 6, 9 and 11, in checking order, of two lent pictures of so many pixels. Refusal 9: "A lent picture's length
@@ -26,12 +24,8 @@ runChecks shape k w h first second =
     ∷ (sidesInRange w h otherwise SideOutOfRange)
     ∷ (fillsPicture first w h otherwise WrongLength)
     ∷ (fillsPicture second w h otherwise WrongLength)
-    ∷ (kernelExists (covarianceXX shape) (covarianceXY shape) (covarianceYY shape) (unitsOf k) otherwise NoKernel)
+    ∷ (shapeHasKernel shape k otherwise NoKernel)
     ∷ []
-
--- the kernel of a shape and a step count
-abbrev pub kernelOfShape : Shape → ℕ → Kernel
-kernelOfShape shape k = kernelOf (covarianceXX shape) (covarianceXY shape) (covarianceYY shape) k
 
 abbrev pub isEven : ℕ → Bool
 isEven k = eqb (k % 2) 0

@@ -16,7 +16,7 @@ use kernel::Kernel;
 use row_core::Coefficients;
 
 // Room for three lines, each of 1024 pixels and one more on both sides.
-const LINES: usize = 3078;
+const LINES: usize = 3 * (limits::LONGEST_SIDE as usize + 2);
 
 // Where the lines of the rows above, at and below stand in the line buffers.
 struct Window {

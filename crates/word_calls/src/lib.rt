@@ -13,6 +13,11 @@ use machine::FreeCount;
 use service::Called;
 use service::Turn;
 
+// The numbers of two refusals, as `limits::error_number` gives them.
+const RECORD_OUT_OF_ORDER: u32 = 2;
+
+const WRONG_LENGTH: u32 = 9;
+
 // What a call answered, handed out: the words and the number are written where it was not refused.
 fn hand_out(words: &mut [u64], number: &mut u64, called: Called) -> u32
     requires { ⌜ length (now words) ≡ wordCount ⌝ }
@@ -63,8 +68,8 @@ pub fn opening(words: &mut [u64]) -> u32
     ensures { λ _. ⌜ now (words .exit) ≡ openingWords (now (words .entry)) ⌝ }
 {
     let count = words.len();
-    if count != 67 {
-        return 9;
+    if count != record_words::WORDS {
+        return WRONG_LENGTH;
     }
     record_words::write_service(words, service::opening());
     0
@@ -85,7 +90,7 @@ pub fn submit(
     ensures { λ _. ⌜ now (store .exit) ≡ submitWords (now (words .entry)) (now (number .entry)) (now (store .entry)) shape steps width height (now (pixels .entry)) .store ⌝ }
 {
     if !record_words::fields_fit(words) {
-        return 2;
+        return RECORD_OUT_OF_ORDER;
     }
     let service = record_words::service_of(words);
     let called = service::submit(service, store, shape, steps, width, height, pixels);
@@ -98,7 +103,7 @@ pub fn tick(words: &mut [u64], store: &mut [u16], number: &mut u64) -> u32
     ensures { λ _. ⌜ now (store .exit) ≡ tickWords (now (words .entry)) (now (number .entry)) (now (store .entry)) .store ⌝ }
 {
     if !record_words::fields_fit(words) {
-        return 2;
+        return RECORD_OUT_OF_ORDER;
     }
     let service = record_words::service_of(words);
     let turn = service::take_turn(service, store);
@@ -117,7 +122,7 @@ pub fn collect(
     ensures { λ _. ⌜ now (picture .exit) ≡ collectWords (now (words .entry)) (now (number .entry)) (now (store .entry)) job (now (picture .entry)) .lent ⌝ }
 {
     if !record_words::fields_fit(words) {
-        return 2;
+        return RECORD_OUT_OF_ORDER;
     }
     let service = record_words::service_of(words);
     let called = service::collect(service, store, job, picture);
@@ -129,7 +134,7 @@ pub fn withdraw(words: &mut [u64], job: u64, number: &mut u64) -> u32
     ensures { λ r. ⌜ Leaves (withdrawWords (now (words .entry)) (now (number .entry)) job) r (now (words .exit)) (now (number .exit)) ⌝ }
 {
     if !record_words::fields_fit(words) {
-        return 2;
+        return RECORD_OUT_OF_ORDER;
     }
     let service = record_words::service_of(words);
     let called = service::withdraw(service, job);
@@ -142,7 +147,7 @@ pub fn free_count(words: &[u64], count: &mut u32) -> u32
     ensures { λ _. ⌜ now (count .exit) ≡ countAfter (countWords (now (words .entry))) (now (count .entry)) ⌝ }
 {
     if !record_words::fields_fit(words) {
-        return 2;
+        return RECORD_OUT_OF_ORDER;
     }
     let service = record_words::service_of(words);
     match service::free_count(service) {

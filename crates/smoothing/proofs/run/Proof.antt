@@ -11,7 +11,8 @@ use Rattle.limits.specs.declared.Outcome.the-variants.{Accepted}
 use Rattle.kernel.specs.declared.Kernel.{Kernel}
 use Rattle.kernel.specs.Answer.{answerWith}
 use Rattle.covariance.proofs.Answers.{Passed, passed}
-use Rattle.smoothing.specs.Runs.{runChecks, kernelOfShape, runWith, runOf}
+use Rattle.covariance.specs.Shapes.{kernelOfShape}
+use Rattle.smoothing.specs.Runs.{runChecks, runWith, runOf}
 use Rattle.smoothing.specs.Shown.{shownChecks}
 use Rattle.smoothing.proofs.Runs.{some-steps, filled, shape-refused, pictures-refused, kernel-decides, kernel-sound, step-kernel, same-run}
 use Rattle.smoothing.proofs.run.Statement.{statement}
