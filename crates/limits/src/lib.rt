@@ -9,7 +9,7 @@ ghost use Rattle.limits.specs.Limits.{withinOf, stepsInRange, sideInRang
 // The numbers of specs/Limits; every crate above takes them from here.
 pub const UNITS_PER_SQUARE_PIXEL: u64 = 4096;
 
-pub const MOST_STEPS: u32 = 64;
+const MOST_STEPS: u32 = 64;
 
 pub const LONGEST_SIDE: u32 = 1024;
 
