@@ -3,13 +3,12 @@
 ghost use mathlib.Core.Path.{_≡_};
 ghost use Prim.Native.Nat.{_+_, _*_, _≤_};
 ghost use lib.ListN.{length};
-ghost use Rattle.limits.specs.Limits.{bufferPixels};
 ghost use Rattle.averaging.specs.Steps.{stepOf};
-ghost use Rattle.row_core.specs.Prepared.{StepKernel};
+ghost use Rattle.row_core.specs.Prepared.{StepKernel, kernelWith, Prepared};
 ghost use Rattle.machine.specs.Store.{part, put};
 ghost use Rattle.buffers.specs.Places.{Between};
 use kernel::Kernel;
-use limits::BUFFER_PIXELS;
+use row_core::Coefficients;
 
 fn copy(source: &[u16], target: &mut [u16])
     requires { ⌜ length (now source) ≡ length (now target) ⌝ }
@@ -40,35 +39,30 @@ pub fn copy_out(store: &[u16], start: usize, pixels: &mut [u16])
     copy(&store[start..end], pixels);
 }
 
-// An array made where it is used would stand in every goal, element by element.
-fn blank_buffer() -> [u16; BUFFER_PIXELS]
-    ensures { λ r. ⌜ length r ≡ bufferPixels ⌝ }
-{
-    [0; BUFFER_PIXELS]
-}
-
-// One step of the picture at one place of the store, to another place, by way of a copy.
-fn step_copied(
+// One step of the picture at one place of the store, to another place, by way of lines that have room for all of it.
+fn step_loaded(
     store: &mut [u16],
-    copied: &mut [u16],
+    lines: &mut [u32],
     from: usize,
     to: usize,
     width: usize,
     height: usize,
-    kernel: Kernel,
+    coefficients: Coefficients,
 )
-    requires { ⌜ StepKernel kernel ⌝ }
+    requires { ⌜ Prepared coefficients ⌝ }
     requires { ⌜ Between (length (now store)) from to width height ⌝ }
-    requires { ⌜ length (now copied) ≡ width * height ⌝ }
-    ensures { λ _. ⌜ now (store .exit) ≡ put to (stepOf kernel width height (part from (width * height) (now (store .entry)))) (now (store .entry)) ⌝ }
+    requires { ⌜ height * (width + 2) ≤ length (now lines) ⌝ }
+    ensures { λ _. ⌜ now (store .exit) ≡ put to (stepOf (kernelWith coefficients) width height (part from (width * height) (now (store .entry)))) (now (store .entry)) ⌝ }
 {
-    let to_end = to + copied.len();
-    copy_out(store, from, copied);
-    stepping::step(copied, &mut store[to..to_end], width, height, kernel);
+    let pixels = width * height;
+    let from_end = from + pixels;
+    let to_end = to + pixels;
+    stepping::load_all(&store[from..from_end], lines, width, height);
+    stepping::step_all(lines, &mut store[to..to_end], width, height, coefficients);
 }
 
 // One step of the picture at one place of the store, to another place. Two parts of one slice cannot be lent at once, so the
-// picture is copied first: its own pixels and no more.
+// picture is loaded whole before a pixel is written.
 pub fn step_between(
     store: &mut [u16],
     from: usize,
@@ -81,15 +75,7 @@ pub fn step_between(
     requires { ⌜ Between (length (now store)) from to width height ⌝ }
     ensures { λ _. ⌜ now (store .exit) ≡ put to (stepOf kernel width height (part from (width * height) (now (store .entry)))) (now (store .entry)) ⌝ }
 {
-    let pixels = width * height;
-    let mut buffer = blank_buffer();
-    step_copied(
-        store,
-        &mut buffer[0..pixels],
-        from,
-        to,
-        width,
-        height,
-        kernel,
-    );
+    let coefficients = row_core::coefficients_of(kernel);
+    let mut lines = stepping::blank_lines();
+    step_loaded(store, &mut lines, from, to, width, height, coefficients);
 }

@@ -10,6 +10,9 @@ ghost use Rattle.kernel.specs.Answer.{noKernel, kernelAnswer, magnitudeO
 use limits::ErrorCode;
 use limits::Outcome;
 
+// The units of document 01's covariance: 1/4096 square pixel.
+pub const UNITS_PER_SQUARE_PIXEL: u64 = 4096;
+
 pub const WEIGHTS: usize = 9;
 
 // Nine weights by row and then by column, and their sum.
@@ -114,7 +117,7 @@ fn kernel_from(xx: Magnitude, xy: Magnitude, yy: Magnitude, steps: u32) -> Kerne
     let a = xx.size;
     let b = yy.size;
     let c = xy.size;
-    let m = limits::UNITS_PER_SQUARE_PIXEL * (steps as u64);
+    let m = UNITS_PER_SQUARE_PIXEL * (steps as u64);
     let f = free_number(a, c, b, m);
     if a < f {
         return refused(ErrorCode::NoKernel);

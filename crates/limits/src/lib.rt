@@ -7,8 +7,6 @@ ghost use Rattle.limits.specs.Errors.{numberOf, outcomeNumber};
 ghost use Rattle.limits.specs.Limits.{withinOf, stepsInRange, sideInRange, sidesInRange, fillsPicture, fitsBuffer};
 
 // The numbers of specs/Limits; every crate above takes them from here.
-pub const UNITS_PER_SQUARE_PIXEL: u64 = 4096;
-
 const MOST_STEPS: u32 = 64;
 
 pub const LONGEST_SIDE: u32 = 1024;

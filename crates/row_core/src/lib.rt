@@ -16,7 +16,7 @@ ghost use Rattle.row_core.specs.Rows.{Pixels, Lines, columnOf, pixelIn, 
 use kernel::Kernel;
 
 // The sum of a kernel's weights, for each of its steps.
-const SUM_PER_STEP: u64 = 4 * limits::UNITS_PER_SQUARE_PIXEL;
+const SUM_PER_STEP: u64 = 4 * kernel::UNITS_PER_SQUARE_PIXEL;
 
 // Half of it.
 const HALF_PER_STEP: u64 = SUM_PER_STEP / 2;

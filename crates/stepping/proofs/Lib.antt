@@ -1,3 +1,4 @@
 -- The laws that the proofs share.
 pub mod Buffers
 pub mod Windows
+pub mod Whole

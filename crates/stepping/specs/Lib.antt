@@ -1,3 +1,4 @@
 -- What the contracts of a step by rows cite.
 pub mod Step
 pub mod Buffers
+pub mod Whole

@@ -1,9 +1,11 @@
-// One smoothing step between two lent slices, a row at a time. An inner crate: its functions take a kernel or have a
-// `requires`, only crates of this repository call them, and nothing exports them.
+// One smoothing step, a row at a time. An inner crate: its functions take a kernel or have a `requires`, only crates of this
+// repository call them, and nothing exports them.
 //
-// The rows of the source pass through three line buffers, from which the row core makes the rows of the target.
+// Between two lent slices the rows of the source pass through three line buffers, from which the row core makes the rows of the
+// target. A small image can be loaded whole, so that its target may stand in the slice that it was read from.
 ghost use mathlib.Core.Path.{_≡_};
-ghost use Prim.Native.Nat.{_+_, _*_, _≤_};
+ghost use mathlib.Core.List.{List};
+ghost use Prim.Native.Nat.{ℕ, _+_, _*_, _^_, _<_, _≤_};
 ghost use lib.ListN.{length};
 ghost use lib.Seq.{paste};
 ghost use Rattle.limits.specs.Limits.{longestSide};
@@ -12,11 +14,12 @@ ghost use Rattle.row_core.specs.Prepared.{StepKernel, kernelWith, Prepared};
 ghost use Rattle.row_core.specs.Rows.{part, paddedOf, rowOf};
 ghost use Rattle.stepping.specs.Step.{Filled};
 ghost use Rattle.stepping.specs.Buffers.{rowFrom, Loadable, Inside, Loaded, Turn};
+ghost use Rattle.stepping.specs.Whole.{Loads, HoldsRows, Readable};
 use kernel::Kernel;
 use row_core::Coefficients;
 
 // Room for three lines, each of 1024 pixels and one more on both sides.
-const LINES: usize = 3 * (limits::LONGEST_SIDE as usize + 2);
+pub const LINES: usize = 3 * (limits::LONGEST_SIDE as usize + 2);
 
 // Where the lines of the rows above, at and below stand in the line buffers.
 struct Window {
@@ -34,6 +37,19 @@ impl Window {
             above: self.at,
             at: self.below,
             below: self.above,
+        }
+    }
+
+    // A row further down of an image that is loaded whole.
+    fn next(self, size: usize) -> Window
+        requires { ⌜ self .below + size < 2 ^ 64 ⌝ }
+        ensures { λ r. ⌜ (r .above ≡ self .at) × (r .at ≡ self .below) × (r .below ≡ self .below + size) ⌝ }
+    {
+        let next = self.below;
+        Window {
+            above: self.at,
+            at: next,
+            below: next + size,
         }
     }
 
@@ -153,13 +169,78 @@ fn step_through(
     step_row(lines, window.bottom(), target, row, width, coefficients);
 }
 
-fn blank_lines() -> [u32; LINES]
+pub fn blank_lines() -> [u32; LINES]
     ensures { λ r. ⌜ length r ≡ 3 * (longestSide + 2) ⌝ }
 {
     [0; LINES]
 }
 
-// One step: the next image, whole.
+// Every row of the source, padded, into lines one after the other.
+pub fn load_all(source: &[u16], lines: &mut [u32], width: usize, height: usize)
+    requires { ⌜ Loads (length (now source)) (length (now lines)) width height ⌝ }
+    ensures { λ _. ⌜ HoldsRows (now (lines .exit)) width height (now (source .entry)) ⌝ }
+{
+    let size = width + 2;
+    let mut row = 0usize;
+    let mut line = 0usize;
+    let mut done = 0usize;
+    while done < height {
+        load_line(source, lines, row, line, width);
+        row += width;
+        line += size;
+        done += 1;
+    }
+}
+
+// One step of an image whose rows were loaded.
+pub fn step_all(
+    lines: &[u32],
+    target: &mut [u16],
+    width: usize,
+    height: usize,
+    coefficients: Coefficients,
+)
+    requires { ⌜ Prepared coefficients ⌝ }
+    requires { ⌜ Readable (now lines) (length (now target)) width height ⌝ }
+    ensures { λ _. ⌜ ((source : List ℕ) → length source ≡ width * height → HoldsRows (now (lines .entry)) width height source → now (target .exit) ≡ stepOf (kernelWith coefficients) width height source) ⌝ }
+{
+    let last = height - 1;
+    let size = width + 2;
+    let mut window = Window {
+        above: 0,
+        at: 0,
+        below: size,
+    };
+    let mut row = 0usize;
+    let mut done = 0usize;
+    while done < last {
+        step_row(lines, window, target, row, width, coefficients);
+        window = window.next(size);
+        row += width;
+        done += 1;
+    }
+    step_row(lines, window.bottom(), target, row, width, coefficients);
+}
+
+// One step of an image that the lines have room for.
+fn step_whole(
+    source: &[u16],
+    target: &mut [u16],
+    lines: &mut [u32],
+    width: usize,
+    height: usize,
+    coefficients: Coefficients,
+)
+    requires { ⌜ Prepared coefficients ⌝ }
+    requires { ⌜ Filled (length (now source)) (length (now target)) width height ⌝ }
+    requires { ⌜ height * (width + 2) ≤ length (now lines) ⌝ }
+    ensures { λ _. ⌜ now (target .exit) ≡ stepOf (kernelWith coefficients) width height (now (source .entry)) ⌝ }
+{
+    load_all(source, lines, width, height);
+    step_all(lines, target, width, height, coefficients);
+}
+
+// One step: the next image, whole. A small one is loaded whole, which is faster than row by row.
 pub fn step(source: &[u16], target: &mut [u16], width: usize, height: usize, kernel: Kernel)
     requires { ⌜ StepKernel kernel ⌝ }
     requires { ⌜ Filled (length (now source)) (length (now target)) width height ⌝ }
@@ -167,5 +248,9 @@ pub fn step(source: &[u16], target: &mut [u16], width: usize, height: usize, ker
 {
     let coefficients = row_core::coefficients_of(kernel);
     let mut lines = blank_lines();
-    step_through(source, target, &mut lines, width, height, coefficients);
+    if height * (width + 2) <= LINES {
+        step_whole(source, target, &mut lines, width, height, coefficients);
+    } else {
+        step_through(source, target, &mut lines, width, height, coefficients);
+    }
 }

@@ -1,52 +1,42 @@
--- `buffers::step_between` meets its contract: the front of a blank buffer has the picture's length. Assumes nothing.
-use mathlib.Core.Path.{_≡_}
+-- `buffers::step_between` meets its contract: the kernel that the coefficients stand for is the kernel itself, and a picture that a
+-- buffer holds has at most 1024 rows, so that its lines have room. Assumes nothing.
+use mathlib.Core.Path.{_∙_}
+use Prim.Native.Nat.{_*_, _≤_}
+use native.Mathlib.Nat.{mul-le-mul-right}
 use native.Mathlib.Omega.{arith}
 use borrow.Author.Needs.{needs}
-use Prim.Native.Nat.{ℕ, _-_, _*_, _≤_}
-use lib.ListN.{length}
-use lib.Seq.{length-take-le}
 use Rattle.buffers.proofs.step_between.Statement.{statement}
 use Rattle.buffers.proofs.step_between.Tie as tie
 
-mul-pixels : tie.Need-mul-pixels
-mul-pixels c = search needs
+coefficients-of-requires : tie.Need-coefficients-of-requires
+coefficients-of-requires c κs = search needs
 
-blank-buffer-requires : tie.Need-blank-buffer-requires
-blank-buffer-requires c κs = search needs
+blank-lines-requires : tie.Need-blank-lines-requires
+blank-lines-requires c κs = search needs
 
-sub-step-copied : tie.Need-sub-step-copied
-sub-step-copied c = search needs
+slice-aggregate-step-loaded : tie.Need-slice-aggregate-step-loaded
+slice-aggregate-step-loaded c = search needs
 
-part-buffer-start : tie.Need-part-buffer-start
-part-buffer-start c = search needs
-
-part-buffer-end : tie.Need-part-buffer-end
-part-buffer-end c = search needs
-
-step-copied-requires : tie.Need-step-copied-requires
-step-copied-requires c κs =
-    let s = c .before .before .before .before in
-    let n : ℕ = s .args .width * s .args .height in
-    let z : n - 0 ≡ n = omega arith in
-    let most : n ≤ 1024 = s .pre .1 .small in
-    let room : n ≤ length (c .before .before .blank-buffer .result) = rw (c .before .before .blank-buffer .ensures) most in
-    (s .pre .0, (s .pre .1, rw z (length-take-le n (c .before .before .blank-buffer .result) room)))
+step-loaded-requires : tie.Need-step-loaded-requires
+step-loaded-requires c κs =
+    let s = c .before .before .before .before .before in
+    let p = s .pre .1 in
+    let tall : 1 * s .args .height ≤ s .args .width * s .args .height = mul-le-mul-right (s .args .height) (p .wide) in
+    (c .before .before .before .coefficients-of .ensures .prepared, (p, omega (arith, tall, p .small, c .before .before .blank-lines .ensures)))
 
 same-length : tie.Need-same-length
 same-length c = search needs
 
 returns : tie.Need-returns
-returns c = search needs
+returns c = c .before .before .before .step-loaded .ensures ∙ rw (c .before .before .before .before .before .before .before .coefficients-of .ensures .is)
 
 pub step-between-spec : {M : Type 1} → statement M
 step-between-spec =
     tie.close
     (tie.spec
-    mul-pixels
-    blank-buffer-requires
-    sub-step-copied
-    part-buffer-start
-    part-buffer-end
-    step-copied-requires
+    coefficients-of-requires
+    blank-lines-requires
+    slice-aggregate-step-loaded
+    step-loaded-requires
     same-length
     returns)

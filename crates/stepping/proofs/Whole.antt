@@ -1,0 +1,66 @@
+-- An image that is loaded whole: a row more in its line, and what stands in the lines before it stays; and the row of a step from
+-- the lines around it. Assumes nothing.
+use mathlib.Core.Path.{_≡_, ap, _∙_}
+use mathlib.Core.Logic.{inl}
+use mathlib.Core.List.{List}
+use Prim.Native.Nat.{ℕ, _+_, _-_, _*_, _≤_, _<_, min}
+use native.Mathlib.Omega.{arith}
+use borrow.Author.Count.{below-more}
+use lib.ListN.{length}
+use lib.Seq.{paste}
+use Rattle.kernel.specs.declared.Kernel.{Kernel}
+use Rattle.row_core.specs.Rows.{part, paddedOf, AllPixels}
+use Rattle.row_core.proofs.Pixels.{part-pixels, padded-pixels}
+use Rattle.row_core.proofs.Rows.{length-padded, row-inside, lineOf}
+use Rattle.stepping.specs.Buffers.{rowFrom, Inside}
+use Rattle.stepping.specs.Whole.{lineAt, HoldsRows, Readable}
+use Rattle.stepping.specs.declared.Window.{Window}
+use Rattle.stepping.proofs.Buffers.{part-written, part-kept}
+use Rattle.stepping.proofs.Windows.{inside}
+
+-- the line of row y lies inside those of h rows
+pub line-inside : (w h y : ℕ) → y < h → y * (w + 2) + (w + 2) ≤ h * (w + 2)
+line-inside w h y l = omega (arith, row-inside (w + 2) h y l)
+
+-- the rows before y stand in their lines, and so does row y once it is loaded
+pub hold-more : (w y : ℕ) (source b : List ℕ) {o : List ℕ} → y * (w + 2) + (w + 2) ≤ length b → length (part (y * w) w source) ≡ w
+    → o ≡ paste b (y * (w + 2)) (paddedOf (part (y * w) w source)) (w + 2)
+    → ((z : ℕ) → z < y → lineAt w z b ≡ paddedOf (part (z * w) w source))
+    → (z : ℕ) → z < y + 1 → lineAt w z o ≡ paddedOf (part (z * w) w source)
+hold-more w y source b {o} inside lr e held =
+    let r : List ℕ = paddedOf (part (y * w) w source) in
+    let n : length r ≡ w + 2 = length-padded (part (y * w) w source) ∙ ap (λ (m : ℕ). m + 2) lr in
+    below-more (λ (z : ℕ). lineAt w z o ≡ paddedOf (part (z * w) w source)) y
+    (λ z l. rw e (part-kept b (y * (w + 2)) (w + 2) r inside n (z * (w + 2)) (omega (arith, line-inside w y z l)) (inl (line-inside w y z l))) ∙ held z l)
+    (rw e (part-written b (y * (w + 2)) (w + 2) r inside n))
+
+-- the lines of an image hold pixels
+pub lines-pixels : (lines source : List ℕ) (w h : ℕ) → HoldsRows lines w h source → AllPixels source → (y : ℕ) → y < h → AllPixels (lineAt w y lines)
+lines-pixels lines source w h holds pixels y l = rw (holds .held y l) (padded-pixels (part (y * w) w source) (part-pixels (y * w) w source pixels))
+
+-- a window at row y of h: the lines of the rows nearest above, at and below it
+pub record Around (v : Window) (w h y : ℕ) : Type 0 where
+  pub above : v .above ≡ (y - 1) * (w + 2)
+  pub at : v .at ≡ y * (w + 2)
+  pub below : v .below ≡ min (y + 1) (h - 1) * (w + 2)
+
+module _ (lines : List ℕ) (w h : ℕ) (v : Window) (y : ℕ) (low : y < h) (around : Around v w h y) where
+  -- its lines lie inside, with pixels in them
+  pub around-inside : (n m i : ℕ) → Readable lines n w h → i + w ≤ m → Inside lines v m i w
+  around-inside n m i r row =
+      let above = line-inside w h (y - 1) (omega arith) in
+      let below = line-inside w h (min (y + 1) (h - 1)) (omega arith) in
+      inside lines v m i w
+      (rw (around .above) (omega (arith, above, r .room)))
+      (rw (around .at) (omega (arith, line-inside w h y low, r .room)))
+      (rw (around .below) (omega (arith, below, r .room)))
+      (rw (around .above) (r .pixels (y - 1) (omega arith)))
+      (rw (around .at) (r .pixels y low))
+      (rw (around .below) (r .pixels (min (y + 1) (h - 1)) (omega arith)))
+      row
+
+  -- and the row that is made of them is that of the step
+  pub around-row : (k : Kernel) (source : List ℕ) → HoldsRows lines w h source → rowFrom k w v lines ≡ lineOf k w h source y
+  unfolding lineOf
+  around-row k source holds =
+      rw (around .above, around .at, around .below, holds .held (y - 1) (omega arith), holds .held y low, holds .held (min (y + 1) (h - 1)) (omega arith))
