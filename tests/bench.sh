@@ -1,6 +1,7 @@
 #!/usr/bin/env bash
 # The bench program on standard input, against the independent program: document 01's listing byte for byte, every refusal,
-# the longest text and one byte more, in pieces, and generated texts, damaged ones included. Usage: bench.sh PROGRAM [COUNT]
+# reads that fail, the longest text and one byte more, in pieces, and generated texts, damaged ones included.
+# Usage: bench.sh PROGRAM [COUNT]
 set -eu
 cd "$(dirname "$0")/.."
 program=$PWD/$1
@@ -38,6 +39,27 @@ done <<'REFUSALS'
 11|J\t1000\t1001\t1000\t1\t1\t1\n0\n
 REFUSALS
 
+# A read that fails is no end of the text: refusal 1, and never a kernel. What has come is a whole job where the descriptor does
+# not wait for the rest, and standard input may be a directory, be closed, or be open for writing only.
+printf 'R\t1\n' >"$work/expected"
+failed() {
+    cmp "$work/expected" "$work/out" || { echo "bench: a read that fails: $1"; exit 1; }
+}
+python3 - "$program" >"$work/out" <<'READS'
+import os, subprocess, sys
+ends, starts = os.pipe()
+os.set_blocking(ends, False)
+os.write(starts, b"J\t0\t0\t0\t1\t1\t1\n7\n")
+sys.stdout.buffer.write(subprocess.run([sys.argv[1]], stdin=ends, stdout=subprocess.PIPE, timeout=10).stdout)
+READS
+failed "the text goes on"
+"$program" <"$work" >"$work/out"
+failed "a directory"
+"$program" <&- >"$work/out"
+failed "closed"
+"$program" 0>"$work/written" >"$work/out"
+failed "open for writing only"
+
 # Generated texts, the longest ones among them; every tenth comes through a pipe in pieces.
 "$built/texts" "$work/texts" 1 "$count"
 n=0
@@ -51,5 +73,5 @@ for text in "$work"/texts/*.text; do
         cmp "$work/expected" "$work/out" || { echo "bench: $text in pieces"; exit 1; }
     fi
 done
-echo "bench: the listing, $refusals refusals and $n texts"
+echo "bench: the listing, $refusals refusals, 4 reads that fail and $n texts"
 [ "$n" -ge "$count" ]

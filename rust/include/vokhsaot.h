@@ -6,6 +6,11 @@
  *
  * A slice is a pointer and its length in entries. No pointer is null, also where the length is 0; each is aligned for its
  * entries; what one call is lent does not overlap. No call keeps a pointer.
+ *
+ * Floats: what is proved of the calls that take or write a double (marked "floats" below) holds where the caller's thread rounds
+ * to nearest, ties to even, and keeps subnormal numbers, which is how a program starts. After fesetround() with another mode, or
+ * with subnormals flushed to zero (FTZ, DAZ; some compilers set them for -ffast-math), these calls can answer otherwise. All
+ * other calls compute in whole numbers and do not depend on it.
  */
 #ifndef VOKHSAOT_H
 #define VOKHSAOT_H
@@ -56,7 +61,7 @@ enum {
 /* ---- Shapes and kernels. */
 
 /*
- * The covariance of a shape in 1/4096 square pixel, each number to the nearest, halves upward: writes xx, xy and yy.
+ * Floats. The covariance of a shape in 1/4096 square pixel, each number to the nearest, halves upward: writes xx, xy and yy.
  * Refusals 3, 4, and 9 where there are not VOKHSAOT_COVARIANCE_ENTRIES entries. The shape is one variance in square pixels,
  */
 uint32_t vokhsaot_covariance_round(double variance, int32_t *entries, size_t entries_len);
@@ -72,10 +77,10 @@ uint32_t vokhsaot_covariance_oval(double along, double across, double cosine, do
  */
 uint32_t vokhsaot_kernel_matrix(int32_t xx, int32_t xy, int32_t yy, uint32_t steps, uint64_t *numbers, size_t numbers_len);
 
-/* or one variance in square pixels, */
+/* or one variance in square pixels (floats), */
 uint32_t vokhsaot_kernel_round(double variance, uint32_t steps, uint64_t *numbers, size_t numbers_len);
 
-/* or the variances along and across a direction. */
+/* or the variances along and across a direction (floats). */
 uint32_t vokhsaot_kernel_oval(double along, double across, double cosine, double sine, uint32_t steps, uint64_t *numbers,
                               size_t numbers_len);
 
@@ -95,11 +100,11 @@ uint32_t vokhsaot_pixel(const uint16_t *pixels, size_t pixels_len, uint32_t widt
 uint32_t vokhsaot_run_matrix(int32_t xx, int32_t xy, int32_t yy, uint32_t steps, uint32_t width, uint32_t height,
                              uint16_t *first, size_t first_len, uint16_t *second, size_t second_len);
 
-/* or one variance in square pixels, */
+/* or one variance in square pixels (floats), */
 uint32_t vokhsaot_run_round(double variance, uint32_t steps, uint32_t width, uint32_t height, uint16_t *first,
                             size_t first_len, uint16_t *second, size_t second_len);
 
-/* or the variances along and across a direction. */
+/* or the variances along and across a direction (floats). */
 uint32_t vokhsaot_run_oval(double along, double across, double cosine, double sine, uint32_t steps, uint32_t width,
                            uint32_t height, uint16_t *first, size_t first_len, uint16_t *second, size_t second_len);
 
@@ -126,7 +131,11 @@ uint32_t vokhsaot_second_y(const uint16_t *pixels, size_t pixels_len, uint32_t w
 uint32_t vokhsaot_mixed(const uint16_t *pixels, size_t pixels_len, uint32_t width, uint32_t height, int32_t *result,
                         size_t result_len);
 
-/* The directional difference: cosine times the first difference in x, plus sine times the one in y. Refusals 4, 6, 9. */
+/*
+ * Floats. The directional difference: cosine times the first difference in x, plus sine times the one in y. Refusals 4, 6, 9.
+ * A refused call keeps the result's entries; of one that is not a number it is proved that it stays none, and nothing of the
+ * bits that tell such numbers apart (sign and payload).
+ */
 uint32_t vokhsaot_directional(double cosine, double sine, const uint16_t *pixels, size_t pixels_len, uint32_t width,
                               uint32_t height, double *result, size_t result_len);
 
@@ -145,7 +154,8 @@ uint32_t vokhsaot_answer_text(const uint8_t *text, size_t text_len, uint8_t *out
  * The service record is VOKHSAOT_WORDS words: for each slot its job number (0 where it is empty), xx, xy, yy, steps, steps
  * left, width and height; then the last number given, the slot last filled and the slot last served. The job numbers and
  * the last number have 64 bits, each other word 32; xx, xy and yy stand as their two's complement in 32 bits. No call
- * trusts the words: what is not a record in order is refused with 2.
+ * trusts the words: what is not a record in order is refused with 2. Words of another length than VOKHSAOT_WORDS are no record:
+ * the opening, which would write one there, refuses them with 9 as a lent buffer of a wrong length, and every other call with 2.
  */
 
 /* Writes the record of an empty service. 9 where there are not VOKHSAOT_WORDS words. */
@@ -159,12 +169,12 @@ uint32_t vokhsaot_submit_matrix(uint64_t *words, size_t words_len, uint16_t *sto
                                 int32_t yy, uint32_t steps, uint32_t width, uint32_t height, const uint16_t *pixels,
                                 size_t pixels_len, uint64_t *number);
 
-/* or one variance in square pixels, */
+/* or one variance in square pixels (floats), */
 uint32_t vokhsaot_submit_round(uint64_t *words, size_t words_len, uint16_t *store, size_t store_len, double variance,
                                uint32_t steps, uint32_t width, uint32_t height, const uint16_t *pixels, size_t pixels_len,
                                uint64_t *number);
 
-/* or the variances along and across a direction, which is a cosine and a sine. */
+/* or the variances along and across a direction, which is a cosine and a sine (floats). */
 uint32_t vokhsaot_submit_oval(uint64_t *words, size_t words_len, uint16_t *store, size_t store_len, double along,
                               double across, double cosine, double sine, uint32_t steps, uint32_t width, uint32_t height,
                               const uint16_t *pixels, size_t pixels_len, uint64_t *number);

@@ -3,6 +3,11 @@
 //!
 //! A call answers, or refuses with an [`Error`] and then has changed nothing.
 //!
+//! What is proved of the calls in floats (a [`Shape::Round`] or [`Shape::Oval`], and [`directional`]) holds where the thread that
+//! calls rounds to nearest, ties to even, and keeps subnormal numbers. Rust code may assume both, but code in another language
+//! can have changed them: with another rounding mode (`fesetround`), or with subnormals flushed to zero (FTZ, DAZ), these calls
+//! can answer otherwise. All other calls compute in whole numbers.
+//!
 //! ```
 //! use vokhsaot::{kernel, run, shown, Shape};
 //!

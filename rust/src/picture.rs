@@ -108,6 +108,10 @@ pub fn difference(
 }
 
 /// The directional difference (c·dx) + (s·dy), into a lent result of the picture's size. Refusals 4, 6 and 9.
+///
+/// It is computed in floats, which takes the thread's usual rounding mode and subnormal numbers for granted (see the crate's first
+/// page). A refused call keeps the result's entries; of one that is a NaN it is proved that it stays one, and nothing of its sign
+/// and payload.
 pub fn directional(
     direction: Direction,
     pixels: &[u16],

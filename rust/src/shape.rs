@@ -10,7 +10,8 @@ pub struct Direction {
     pub sine: f64,
 }
 
-/// A shape: the covariance of a job's smoothing kernel.
+/// A shape: the covariance of a job's smoothing kernel. `Round` and `Oval` are computed in floats, which takes the thread's usual
+/// rounding mode and subnormal numbers for granted (see the crate's first page); `Matrix` is not.
 #[derive(Clone, Copy, Debug, PartialEq)]
 pub enum Shape {
     /// The covariance matrix in 1/4096 square pixel.

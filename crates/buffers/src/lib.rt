@@ -4,7 +4,7 @@ ghost use mathlib.Core.Path.{_≡_};
 ghost use Prim.Native.Nat.{_+_, _*_, _≤_};
 ghost use lib.ListN.{length};
 ghost use Rattle.averaging.specs.Steps.{stepOf};
-ghost use Rattle.row_core.specs.Prepared.{StepKernel, kernelWith, Prepared};
+ghost use Rattle.row_core.specs.Prepared.{StepKernel, kernelOfCoefficients, Prepared};
 ghost use Rattle.machine.specs.Store.{part, put};
 ghost use Rattle.buffers.specs.Places.{Between};
 use kernel::Kernel;
@@ -52,7 +52,7 @@ fn step_loaded(
     requires { ⌜ Prepared coefficients ⌝ }
     requires { ⌜ Between (length (now store)) from to width height ⌝ }
     requires { ⌜ height * (width + 2) ≤ length (now lines) ⌝ }
-    ensures { λ _. ⌜ now (store .exit) ≡ put to (stepOf (kernelWith coefficients) width height (part from (width * height) (now (store .entry)))) (now (store .entry)) ⌝ }
+    ensures { λ _. ⌜ now (store .exit) ≡ put to (stepOf (kernelOfCoefficients coefficients) width height (part from (width * height) (now (store .entry)))) (now (store .entry)) ⌝ }
 {
     let pixels = width * height;
     let from_end = from + pixels;

@@ -1,7 +1,8 @@
 // The differences of a picture and its single pixels, exported. What each call writes and refuses is said in picture_calls.
 ghost use mathlib.Core.Path.{_≡_};
-ghost use Rattle.image.specs.Reading.{readingOf, readingNumber};
-ghost use Rattle.picture_calls.specs.Pictures.{differenceCode, differenceAfter, directionalCode, directionalAfter, pixelAfter};
+ghost use Rattle.limits.specs.Errors.{valueOr};
+ghost use Rattle.image.specs.Reading.{readingOf, readingNumber, readingValues};
+ghost use Rattle.picture_calls.specs.Pictures.{differenceCode, differenceAfter, directionalCode, directionalAfter};
 use covariance::Direction;
 use differences::Difference;
 
@@ -98,7 +99,7 @@ pub extern "C" fn vokhsaot_pixel(
     pixel: &mut u16,
 ) -> u32
     ensures { λ r. ⌜ r ≡ readingNumber (readingOf width height (now (pixels .entry)) column row) ⌝ }
-    ensures { λ _. ⌜ now (pixel .exit) ≡ pixelAfter (readingOf width height (now (pixels .entry)) column row) (now (pixel .entry)) ⌝ }
+    ensures { λ _. ⌜ now (pixel .exit) ≡ valueOr (readingValues (readingOf width height (now (pixels .entry)) column row)) (now (pixel .entry)) ⌝ }
 {
     picture_calls::pixel_at(pixels, width, height, column, row, pixel)
 }

@@ -1,6 +1,8 @@
 // The service's calls, exported. What each reads, writes and refuses is said in word_calls.
 ghost use mathlib.Core.Path.{_≡_};
-ghost use Rattle.word_calls.specs.Exported.{Leaves, openingCode, openingWords, submitWords, tickWords, collectWords, withdrawWords, countCode, countAfter, countWords};
+ghost use Rattle.limits.specs.Errors.{valueOr};
+ghost use Rattle.machine.specs.Answers.{countNumber, countValues};
+ghost use Rattle.word_calls.specs.Exported.{Leaves, openingCode, openingWords, submitWords, tickWords, collectWords, withdrawWords, countWords};
 use covariance::Direction;
 use covariance::Shape;
 
@@ -134,8 +136,8 @@ pub extern "C" fn vokhsaot_withdraw(words: &mut [u64], job: u64, number: &mut u6
 // Writes the number of free buffers.
 #[no_mangle]
 pub extern "C" fn vokhsaot_free_count(words: &[u64], count: &mut u32) -> u32
-    ensures { λ r. ⌜ r ≡ countCode (countWords (now (words .entry))) ⌝ }
-    ensures { λ _. ⌜ now (count .exit) ≡ countAfter (countWords (now (words .entry))) (now (count .entry)) ⌝ }
+    ensures { λ r. ⌜ r ≡ countNumber (countWords (now (words .entry))) ⌝ }
+    ensures { λ _. ⌜ now (count .exit) ≡ valueOr (countValues (countWords (now (words .entry)))) (now (count .entry)) ⌝ }
 {
     word_calls::free_count(words, count)
 }

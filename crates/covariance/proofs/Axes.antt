@@ -1,23 +1,25 @@
 -- An Oval along an axis is accepted, and has exactly the axis-aligned covariance: the units of its two variances, and xy 0.
 -- The squares of the cosine and the sine are 1 and 0, so each sum has one variance times 1 and the other times 0 (proofs/Zeros).
 -- Assumes nothing.
-use mathlib.Core.Path.{_≡_, refl, ap, ap₂, _∙_}
+use mathlib.Core.Path.{_≡_, refl, ap, _∙_}
 use mathlib.Core.Bool.{Bool, true, false}
 use lib.Dec.{T, lit<, lit≤}
 use lib.IntN.{ℤ, pos}
-use lib.Ieee.{Float, binary64, unlike, add, mul, le, fits}
+use lib.Ieee.{Float, binary64, unlike, fits}
 use lib.Ieee.Fits.{mul-fits}
+use Rattle.limits.proofs.Laws.{both-true}
 use Rattle.covariance.specs.declared.Direction.{Direction}
 use Rattle.covariance.specs.declared.Shape.the-variants.{Oval}
 use Rattle.covariance.specs.declared.Covariance.{Covariance}
-use Rattle.covariance.specs.Floats.{_⊕_, _⊖_, _⊗_, inRange}
+use Rattle.covariance.specs.Floats.{_⊕_, _⊖_, _⊗_}
 use Rattle.covariance.specs.Units.{nearestUnits}
 use Rattle.covariance.specs.Cuts.{Within}
-use Rattle.covariance.specs.Shapes.{varianceInRange, cosineInRange, squareInRange, directionInRange, variancesFine, directionFine, ovalXX, ovalXY, ovalYY, covarianceXX, covarianceXY, covarianceYY}
+use Rattle.covariance.specs.Shapes.{varianceInRange, directionInRange, variancesFine, directionFine, ovalXX, ovalXY, ovalYY, covarianceXX, covarianceXY, covarianceYY}
 use Rattle.covariance.specs.Answer.{covarianceAnswer}
 use Rattle.covariance.specs.Axes.{isZero, isUnit, alongX, alongY}
 use Rattle.covariance.proofs.Halves.{units-of-zero}
-use Rattle.covariance.proofs.Sizes.{both, within-mul, within-sub, variance-within, weighted}
+use Rattle.covariance.proofs.Sizes.{within-mul, within-sub, variance-within, weighted}
+use Rattle.covariance.proofs.Accepted.{accepted-along-x, accepted-along-y}
 use Rattle.covariance.proofs.Zeros.{zeroOf, unitOf, is-zero, is-unit, unit-square, zero-square, unit-times-zero, zero-times-unit, times-zero, plus-zero, times-unit, plus-comm}
 
 -- ---- an oval's floats, where one of cosine and sine is 1 or −1 and the other a zero
@@ -41,23 +43,6 @@ mixed p q z t P Q e =
     let w = times-zero 128 (p ⊖ q) t (within-sub 64 64 p q (lit< tt) P Q) in
     rw (e, w .1) (units-of-zero (w .0) 0 (pos 0) refl)
 
-abbrev towards : Float → Float → Direction
-towards c s = record { cosine = c; sine = s }
-
-accepted-x : (s t : Bool) → directionInRange (towards (unitOf s) (zeroOf t)) ≡ true
-unfolding directionInRange cosineInRange squareInRange inRange le mul add
-accepted-x true true = refl
-accepted-x true false = refl
-accepted-x false true = refl
-accepted-x false false = refl
-
-accepted-y : (s t : Bool) → directionInRange (towards (zeroOf s) (unitOf t)) ≡ true
-unfolding directionInRange cosineInRange squareInRange inRange le mul add
-accepted-y true true = refl
-accepted-y true false = refl
-accepted-y false true = refl
-accepted-y false false = refl
-
 module _ (long short : Float) (L : varianceInRange long ≡ true) (S : varianceInRange short ≡ true) where
   answered : (d : Direction) (xx xy yy : ℤ) → directionInRange d ≡ true
       → nearestUnits (ovalXX long short d) ≡ xx → nearestUnits (ovalXY long short d) ≡ xy → nearestUnits (ovalYY long short d) ≡ yy
@@ -66,35 +51,37 @@ module _ (long short : Float) (L : varianceInRange long ≡ true) (S : varianceI
   answered d xx xy yy D x z y = rw (L, S, D, x, z, y)
 
   module _ (l : T (fits binary64 long)) (k : T (fits binary64 short)) where
-    x-axis : (s t : Bool) → covarianceAnswer (Oval long short (towards (unitOf s) (zeroOf t))) ≡ Covariance.Entries (nearestUnits long) (pos 0) (nearestUnits short)
-    x-axis s t =
-        answered (towards (unitOf s) (zeroOf t)) (nearestUnits long) (pos 0) (nearestUnits short) (accepted-x s t)
-        (first long short l (variance-within long L) (variance-within short S) s t)
-        (mixed long short (unitOf s ⊗ zeroOf t) (unlike s t) (variance-within long L) (variance-within short S) (unit-times-zero s t))
-        (second short long k (variance-within short S) (variance-within long L) s t)
+    x-axis : (d : Direction) (s t : Bool) → d .cosine ≡ unitOf s → d .sine ≡ zeroOf t → directionInRange d ≡ true
+        → covarianceAnswer (Oval long short d) ≡ Covariance.Entries (nearestUnits long) (pos 0) (nearestUnits short)
+    x-axis d s t u z D =
+        answered d (nearestUnits long) (pos 0) (nearestUnits short) D
+        (rw (u, z) (first long short l (variance-within long L) (variance-within short S) s t))
+        (mixed long short (d .cosine ⊗ d .sine) (unlike s t) (variance-within long L) (variance-within short S) (rw (u, z) (unit-times-zero s t)))
+        (rw (u, z) (second short long k (variance-within short S) (variance-within long L) s t))
 
-    y-axis : (s t : Bool) → covarianceAnswer (Oval long short (towards (zeroOf s) (unitOf t))) ≡ Covariance.Entries (nearestUnits short) (pos 0) (nearestUnits long)
-    y-axis s t =
-        answered (towards (zeroOf s) (unitOf t)) (nearestUnits short) (pos 0) (nearestUnits long) (accepted-y s t)
-        (second short long k (variance-within short S) (variance-within long L) t s)
-        (mixed long short (zeroOf s ⊗ unitOf t) (unlike s t) (variance-within long L) (variance-within short S) (zero-times-unit s t))
-        (first long short l (variance-within long L) (variance-within short S) t s)
+    y-axis : (d : Direction) (s t : Bool) → d .cosine ≡ zeroOf s → d .sine ≡ unitOf t → directionInRange d ≡ true
+        → covarianceAnswer (Oval long short d) ≡ Covariance.Entries (nearestUnits short) (pos 0) (nearestUnits long)
+    y-axis d s t z u D =
+        answered d (nearestUnits short) (pos 0) (nearestUnits long) D
+        (rw (z, u) (second short long k (variance-within short S) (variance-within long L) t s))
+        (mixed long short (d .cosine ⊗ d .sine) (unlike s t) (variance-within long L) (variance-within short S) (rw (z, u) (zero-times-unit s t)))
+        (rw (z, u) (first long short l (variance-within long L) (variance-within short S) t s))
 
-    -- "where one of c, s is 0 and the unlike-signs 1 or −1": a cosine of 1 or −1 leaves the variances in their places, and a sine of 1
-    -- or −1 exchanges them
+    -- "where one of c, s is 0 and the other 1 or −1 (the two zeros count as equal)": a cosine of 1 or −1 leaves the variances in
+    -- their places, and a sine of 1 or −1 exchanges them
     module _ (d : Direction) (c : T (fits binary64 (d .cosine))) (s : T (fits binary64 (d .sine))) where
       pub aligned-x : alongX d ≡ true → covarianceAnswer (Oval long short d) ≡ Covariance.Entries (nearestUnits long) (pos 0) (nearestUnits short)
       unfolding alongX
       aligned-x h =
-          let tests = both (isUnit (d .cosine)) (isZero (d .sine)) h in
+          let tests = both-true (isUnit (d .cosine)) (isZero (d .sine)) h in
           let u = is-unit (d .cosine) c (tests .0) in
           let z = is-zero (d .sine) s (tests .1) in
-          ap (λ d. covarianceAnswer (Oval long short d)) (ap₂ towards (u .1) (z .1)) ∙ x-axis (u .0) (z .0)
+          x-axis d (u .0) (z .0) (u .1) (z .1) (accepted-along-x d h)
 
       pub aligned-y : alongY d ≡ true → covarianceAnswer (Oval long short d) ≡ Covariance.Entries (nearestUnits short) (pos 0) (nearestUnits long)
       unfolding alongY
       aligned-y h =
-          let tests = both (isZero (d .cosine)) (isUnit (d .sine)) h in
+          let tests = both-true (isZero (d .cosine)) (isUnit (d .sine)) h in
           let z = is-zero (d .cosine) c (tests .0) in
           let u = is-unit (d .sine) s (tests .1) in
-          ap (λ d. covarianceAnswer (Oval long short d)) (ap₂ towards (z .1) (u .1)) ∙ y-axis (z .0) (u .0)
+          y-axis d (z .0) (u .0) (z .1) (u .1) (accepted-along-y d h)

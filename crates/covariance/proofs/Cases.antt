@@ -1,21 +1,52 @@
--- Worked cases: halves of both signs, the ends of the ranges, and the order of the refusals. Each table has one computed
--- proof. Assumes nothing.
+-- Worked cases: values of floats, halves of both signs, what is half a unit away, the axes, the ends of the ranges, and the order of
+-- the refusals. Each table has one computed proof. Assumes nothing.
 use mathlib.Core.Path.{_≡_, refl}
-use mathlib.Core.Bool.{true, false}
+use mathlib.Core.Bool.{Bool, true, false}
 use mathlib.Core.List.{List, [], _∷_, map}
 use Prim.Native.Nat.{ℕ}
+use lib.Dec.{lit≤, le→leb}
 use lib.IntN.{ℤ, pos, negsuc}
-use lib.Ieee.{Float, nan, inf, fin, binary64, ofBits, add, sub, mul, le}
+use lib.Ieee.{Float, nan, inf, fin, binary64, ofBits, add, sub, mul, le, eq}
+use lib.Ieee.Scale.{finite}
 use Rattle.limits.specs.Errors.{firstRefusal, outcomeNumber}
 use Rattle.kernel.specs.Existence.{kernelExists}
 use Rattle.covariance.specs.declared.Direction.{Direction}
 use Rattle.covariance.specs.declared.Shape.{Shape}
 use Rattle.covariance.specs.declared.Shape.the-variants.{Matrix, Round, Oval}
 use Rattle.covariance.specs.declared.Covariance.{Covariance}
-use Rattle.covariance.specs.Floats.{inRange}
-use Rattle.covariance.specs.Units.{nearestUnits}
+use Rattle.covariance.specs.Floats.{inRange, numerator, denominator}
+use Rattle.covariance.specs.Units.{nearestUnits, WithinHalfUnit}
+use Rattle.covariance.specs.Cuts.{wholeBelow, wholeAbove}
+use Rattle.covariance.specs.Axes.{isZero, isUnit, alongX, alongY}
 use Rattle.covariance.specs.Shapes.{varianceInRange, cosineInRange, squareInRange, directionInRange, variancesFine, directionFine, covarianceXX, covarianceXY, covarianceYY}
 use Rattle.covariance.specs.Answer.{covarianceAnswer, shapeKernelChecks}
+
+-- ---- a float, its exact value as a fraction, and the whole numbers at its size or next below and next above. What is no number or
+-- infinite counts as 0; no call ever answers with it, since refusals 3 and 4 come first.
+pub record Valued : Type 0 where
+  pub float : Float
+  pub over : ℤ
+  pub under : ℕ
+  pub below : ℕ
+  pub above : ℕ
+
+abbrev pub valued : Float → ℤ → ℕ → ℕ → ℕ → Valued
+valued x n d below above = record { float = x; over = n; under = d; below = below; above = above }
+
+abbrev pub values : List Valued
+values =
+    valued (fin false 5 (negsuc 0)) (pos 5) 2 2 3
+    ∷ valued (fin true 5 (negsuc 0)) (negsuc 4) 2 2 3
+    ∷ valued (fin false 3 (pos 1)) (pos 6) 1 6 6
+    ∷ valued (fin true 3 (pos 1)) (negsuc 5) 1 6 6
+    ∷ valued (fin true 0 (pos 0)) (pos 0) 1 0 0
+    ∷ valued nan (pos 0) 1 0 0
+    ∷ valued (inf false) (pos 0) 1 0 0
+    ∷ valued (inf true) (pos 0) 1 0 0
+    ∷ []
+
+pub evaluated : map (λ row. valued (row .float) (numerator (row .float)) (denominator (row .float)) (wholeBelow (row .float)) (wholeAbove (row .float))) values ≡ values
+evaluated = refl
 
 -- ---- a float, and 4096 times it to the nearest whole number; half a unit is 1 × 2 ^ −13
 abbrev pub roundings : List (Float × ℤ)
@@ -38,6 +69,25 @@ pub rounded : map (λ row. nearestUnits (row .0)) roundings ≡ map (λ row. row
 unfolding nearestUnits ofBits
 rounded = refl
 
+-- ---- half a unit is within half a unit of 0 and of 1, three quarters of one are not within it of 0 nor a quarter of 1, a
+-- negative half is within it of 0 and of −1 and not of 1, and what is no number or infinite is within it of nothing
+pub half-away : WithinHalfUnit (pos 0) (fin false 1 (negsuc 12)) × WithinHalfUnit (pos 1) (fin false 1 (negsuc 12))
+    × WithinHalfUnit (pos 0) (fin true 1 (negsuc 12)) × WithinHalfUnit (negsuc 0) (fin true 1 (negsuc 12))
+unfolding WithinHalfUnit finite
+half-away = ((tt, lit≤ tt), (tt, lit≤ tt), (tt, lit≤ tt), (tt, lit≤ tt))
+
+-- `le→leb` turns a false inequality of two numerals into nothing
+pub further-away : ¬ WithinHalfUnit (pos 0) (fin false 3 (negsuc 13)) × ¬ WithinHalfUnit (pos 1) (fin false 1 (negsuc 13))
+    × ¬ WithinHalfUnit (pos 1) (fin true 1 (negsuc 12)) × ((u : ℤ) → ¬ WithinHalfUnit u nan) × ((u : ℤ) (s : Bool) → ¬ WithinHalfUnit u (inf s))
+unfolding WithinHalfUnit finite
+further-away = (
+  λ h. le→leb 24576 16384 (h .1),
+  λ h. le→leb 24576 16384 (h .1),
+  λ h. le→leb 24576 8192 (h .1),
+  λ u h. h .0,
+  λ u s h. h .0,
+)
+
 -- ---- a shape, and what it gives
 abbrev pub towards : Float → Float → Direction
 towards c s = record { cosine = c; sine = s }
@@ -47,6 +97,30 @@ one = fin false 1 (pos 0)
 
 abbrev pub zero : Float
 zero = fin false 0 (pos 0)
+
+-- ---- a direction, and whether it lies along x and along y: "one of c, s is 0 and the other 1 or −1 (the two zeros count as equal)"
+abbrev pub directions : List (Direction × Bool × Bool)
+directions =
+    (towards one zero, true, false)
+    ∷ (towards one (fin true 0 (pos 0)), true, false)
+    ∷ (towards (fin true 1 (pos 0)) zero, true, false)
+    ∷ (towards (fin true 1 (pos 0)) (fin true 0 (pos 0)), true, false)
+    ∷ (towards zero one, false, true)
+    ∷ (towards (fin true 0 (pos 0)) one, false, true)
+    ∷ (towards zero (fin true 1 (pos 0)), false, true)
+    ∷ (towards (fin true 0 (pos 0)) (fin true 1 (pos 0)), false, true)
+    ∷ (towards zero zero, false, false)
+    ∷ (towards one one, false, false)
+    -- 2, and 2 ^ −1074, are neither 1 nor 0
+    ∷ (towards (fin false 1 (pos 1)) zero, false, false)
+    ∷ (towards one (fin false 1 (negsuc 1073)), false, false)
+    ∷ (towards nan zero, false, false)
+    ∷ (towards zero (inf false), false, false)
+    ∷ []
+
+pub along : map (λ row. (row .0, alongX (row .0), alongY (row .0))) directions ≡ directions
+unfolding alongX alongY isZero isUnit eq
+along = refl
 
 -- the float nearest to the square root of 1023/1024, whose square is 1023/1024 as a float, and the next below it
 abbrev pub lowest : Float

@@ -1,6 +1,6 @@
 -- Fractions of natural numbers to whole numbers. The quotient a / d rounds a fraction down; `under a d`, the largest whole
 -- number that is below a / d, serves where a fraction is rounded up and where a half goes to zero. Each sees only the
--- fraction's value, and so does `nearest`, which is a quotient above zero and an `under` below it. Assumes nothing.
+-- fraction's value, and so does `nearestWhole`, which is a quotient above zero and an `under` below it. Assumes nothing.
 use mathlib.Core.Path.{_≡_, refl, sym, ap, _∙_}
 use mathlib.Core.Bool.{Bool, true, false, not, cond}
 use Prim.Native.Nat.{ℕ, zero, suc, _+_, _-_, _*_, _/_, _≤_, _<_}
@@ -11,7 +11,7 @@ use lib.Dec.{T, ltb, ltb→lt, nltb→le}
 use lib.IntN.{ℤ, pos, negsuc, negℤ, natAbs, _+ℤ_, _*ℤ_}
 use lib.Signed.{shrZ}
 use lib.Ieee.Nearest.{div-same}
-use Rattle.covariance.specs.Units.{nearest}
+use Rattle.covariance.specs.Units.{nearestWhole}
 
 -- ---- the largest whole number below a / d, for a and d above 0
 abbrev pub under : ℕ → ℕ → ℕ
@@ -27,7 +27,7 @@ under-mono a b c d A B D h =
 pub under-same : (a b c d : ℕ) → 0 < a → 0 < b → 0 < c → 0 < d → a * d ≡ c * b → under a b ≡ under c d
 under-same a b c d A B C D e = le-antisymm (under-mono a b c d A B D (le-of-eq e)) (under-mono c d a b C D B (le-of-eq (sym e)))
 
--- ---- `nearest` below zero
+-- ---- `nearestWhole` below zero
 pub size-of-negative : (z : ℤ) → natAbs (negℤ z) ≡ natAbs z
 size-of-negative (pos zero) = refl
 size-of-negative (pos (suc n)) = refl
@@ -55,10 +55,10 @@ half-below (suc n) d p = go (ltb d (suc n)) (ltb→lt d (suc n)) (nltb→le d (s
         let h = g tt in
         rw (none (suc n + d - 1) (2 * d) (omega arith), none (d - suc n) (2 * d) (omega arith))
 
-pub nearest-negative : (n d : ℕ) → 0 < d → nearest (negℤ (pos n)) d ≡ negℤ (pos (under (2 * n + d) (2 * d)))
+pub nearest-negative : (n d : ℕ) → 0 < d → nearestWhole (negℤ (pos n)) d ≡ negℤ (pos (under (2 * n + d) (2 * d)))
 nearest-negative n d p = ap (λ z. shrZ (z +ℤ pos d) (2 * d)) (times-negative 2 n) ∙ half-below (2 * n) d p
 
--- ---- a fraction with a sign, rounded by `nearest`
+-- ---- a fraction with a sign, rounded by `nearestWhole`
 abbrev pub signed : Bool → ℕ → ℤ
 signed false n = pos n
 signed true n = negℤ (pos n)
@@ -72,7 +72,7 @@ spread a b d =
 wide : (a b c d : ℕ) → a * d ≡ c * b → (2 * a + b) * (2 * d) ≡ (2 * c + d) * (2 * b)
 wide a b c d e = omega (arith, spread a b d, spread c d b, mul-comm b d)
 
-pub nearest-same : (s : Bool) (a b c d : ℕ) → 0 < b → 0 < d → a * d ≡ c * b → nearest (signed s a) b ≡ nearest (signed s c) d
+pub nearest-same : (s : Bool) (a b c d : ℕ) → 0 < b → 0 < d → a * d ≡ c * b → nearestWhole (signed s a) b ≡ nearestWhole (signed s c) d
 nearest-same false a b c d B D e = ap pos (div-same (2 * a + b) (2 * b) (2 * c + d) (2 * d) (omega arith) (omega arith) (wide a b c d e))
 nearest-same true a b c d B D e =
     nearest-negative a b B

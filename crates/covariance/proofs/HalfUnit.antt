@@ -13,7 +13,7 @@ use lib.Ieee.Scale.{finite}
 use Rattle.limits.specs.Limits.{unitsPerSquarePixel}
 use Rattle.covariance.specs.declared.Direction.{Direction}
 use Rattle.covariance.specs.declared.Shape.the-variants.{Round, Oval}
-use Rattle.covariance.specs.Units.{nearest, nearestUnits, WithinHalfUnit}
+use Rattle.covariance.specs.Units.{nearestWhole, nearestUnits, WithinHalfUnit}
 use Rattle.covariance.specs.Cuts.{mostSquares, Within}
 use Rattle.covariance.specs.Shapes.{variancesFine, directionFine, ovalXX, ovalXY, ovalYY, covarianceXX, covarianceXY, covarianceYY}
 use Rattle.covariance.proofs.Fractions.{under, signed, size-of-negative, times-negative, nearest-negative}
@@ -39,7 +39,7 @@ near true n d q h k =
 quotient : (q d : ℕ) → q * (2 * d) ≡ 2 * (d * q)
 quotient q d = mul-comm q (2 * d) ∙ mul-assoc 2 d q
 
-nearest-near : (s : Bool) (n d : ℕ) → 0 < d → 2 * natAbs (pos d *ℤ nearest (signed s n) d -ℤ signed s n) ≤ d
+nearest-near : (s : Bool) (n d : ℕ) → 0 < d → 2 * natAbs (pos d *ℤ nearestWhole (signed s n) d -ℤ signed s n) ≤ d
 nearest-near false n d p =
     let q = (2 * n + d) / (2 * d) in
     let l = div-mul-le-self (2 * n + d) (2 * d) in

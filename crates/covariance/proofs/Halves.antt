@@ -13,24 +13,24 @@ use lib.Ieee.Fits.{down-pos}
 use lib.Ieee.Nearest.{div-same}
 use borrow.Author.Tests.{ltb-true, ltb-false}
 use Rattle.limits.specs.Limits.{unitsPerSquarePixel}
-use Rattle.covariance.specs.Units.{nearest, nearestUnits}
+use Rattle.covariance.specs.Units.{nearestWhole, nearestUnits}
 use Rattle.covariance.specs.Cuts.{mostSquares, mostHalves, Within, UpTo, wholeBelow, wholeAbove}
 use Rattle.covariance.proofs.Fractions.{under, under-same, times-negative, nearest-negative, signed}
 use Rattle.covariance.proofs.Exact.{Scaled}
 
 -- ---- the nearest whole number, by the fraction that a float is
-pub units-at : (s : Bool) (m : ℕ) (e : ℤ) → nearestUnits (fin s m e) ≡ nearest (signed s (unitsPerSquarePixel * (m * up e))) (down e)
+pub units-at : (s : Bool) (m : ℕ) (e : ℤ) → nearestUnits (fin s m e) ≡ nearestWhole (signed s (unitsPerSquarePixel * (m * up e))) (down e)
 unfolding nearestUnits
 units-at false m e = refl
-units-at true m e = ap (λ z. nearest z (down e)) (times-negative unitsPerSquarePixel (m * up e))
+units-at true m e = ap (λ z. nearestWhole z (down e)) (times-negative unitsPerSquarePixel (m * up e))
 
 pub units-of-zero : (s : Bool) (m : ℕ) (e : ℤ) → m * up e ≡ 0 → nearestUnits (fin s m e) ≡ pos 0
-units-of-zero s m e z = units-at s m e ∙ ap (λ n. nearest (signed s (unitsPerSquarePixel * n)) (down e)) z ∙ go s
+units-of-zero s m e z = units-at s m e ∙ ap (λ n. nearestWhole (signed s (unitsPerSquarePixel * n)) (down e)) z ∙ go s
   where
     none : (d : ℕ) → 0 < d → (0 + d) / (2 * d) ≡ 0
     none d p = div-eq-of-lt (omega arith)
 
-    go : (s : Bool) → nearest (signed s 0) (down e) ≡ pos 0
+    go : (s : Bool) → nearestWhole (signed s 0) (down e) ≡ pos 0
     go false = ap pos (none (down e) (down-pos e))
     go true = ap pos (none (down e) (down-pos e))
 

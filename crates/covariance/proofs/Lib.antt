@@ -9,5 +9,7 @@ pub mod Answers
 pub mod HalfUnit
 pub mod Ranges
 pub mod Zeros
+pub mod Accepted
 pub mod Axes
+pub mod Refusals
 pub mod Cases

@@ -11,7 +11,7 @@ use lib.Ieee.Fits.{down-pos}
 use Rattle.limits.specs.Limits.{unitsPerSquarePixel}
 use Rattle.covariance.specs.declared.Direction.{Direction}
 use Rattle.covariance.specs.declared.Shape.the-variants.{Round, Oval}
-use Rattle.covariance.specs.Units.{nearest, nearestUnits}
+use Rattle.covariance.specs.Units.{nearestWhole, nearestUnits}
 use Rattle.covariance.specs.Cuts.{mostSquares, mostUnits, Within}
 use Rattle.covariance.specs.Shapes.{variancesFine, directionFine, ovalXX, ovalXY, ovalYY, covarianceXX, covarianceXY, covarianceYY}
 use Rattle.covariance.proofs.Fractions.{under, signed, size-of-negative, nearest-negative}
@@ -24,7 +24,7 @@ at-most k x d p h =
     let e : suc k * (2 * d) ≡ (k + 1) * (2 * d) = ap (λ n. n * (2 * d)) (omega arith) in
     le-of-suc-le-suc (div-lt-iff-lt-mul (omega arith) .1 (omega arith))
 
-nearest-le : (s : Bool) (n d k : ℕ) → 0 < d → n ≤ k * d → natAbs (nearest (signed s n) d) ≤ k
+nearest-le : (s : Bool) (n d k : ℕ) → 0 < d → n ≤ k * d → natAbs (nearestWhole (signed s n) d) ≤ k
 nearest-le false n d k p h = at-most k (2 * n + d) d p (omega arith)
 nearest-le true n d k p h = rw (nearest-negative n d p, size-of-negative (pos (under (2 * n + d) (2 * d)))) (at-most k (2 * n + d - 1) d p (omega arith))
 

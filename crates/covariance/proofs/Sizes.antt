@@ -1,7 +1,7 @@
 -- Bounds on the size of a float. Rounding takes no fraction of at most b past b, for a whole number b below 2 ^ 53: so a
 -- product is within the product of its operands' bounds, and a sum or a difference within their sum, whatever the signs. A
 -- test of a range bounds what passes it. So no entry of an accepted shape is above 128 square pixels. Assumes nothing.
-use mathlib.Core.Path.{_≡_, refl, sym, ap, _∙_, subst}
+use mathlib.Core.Path.{_≡_, sym, ap, _∙_, subst}
 use mathlib.Core.Bool.{Bool, true, false, cond, _&&_, _||_, Bool·beq, true≢false}
 use Prim.Native.Nat.{ℕ, _+_, _-_, _*_, _/_, _^_, _≤_, _<_}
 use native.Mathlib.Nat.{le-trans, le-of-eq, le-of-lt, lt-of-le-of-lt, lt-of-lt-of-le, mul-one, mul-comm, mul-assoc, mul-left-comm, mul-right-comm, mul-le-mul-right, mul-le-mul, mul-lt-mul-of-pos-right, le-of-mul-le-mul-right, div-le-of-le-mul, div-one, mod-one, mul-pos, add-mul}
@@ -14,6 +14,7 @@ use lib.Ieee.Fits.{down-pos, and-l, round-is}
 use lib.Ieee.Digits.{size-le}
 use lib.Ieee.Exact.{HasValue, units-val}
 use lib.Ieee.Nearest.{closest, closest-mono}
+use Rattle.limits.proofs.Laws.{both-true}
 use Rattle.covariance.specs.declared.Direction.{Direction}
 use Rattle.covariance.specs.declared.Shape.the-variants.{Round, Oval}
 use Rattle.covariance.specs.Floats.{_⊕_, _⊖_, _⊗_, inRange}
@@ -112,11 +113,6 @@ wider a b (inf s) r h = h
 wider a b (fin s m e) r h = le-trans h (mul-le-mul-right (down e) r)
 
 -- ---- a test of a range whose ends are whole numbers, at most b in size
-pub both : (p q : Bool) → p && q ≡ true → (p ≡ true) × (q ≡ true)
-both true true h = (refl, refl)
-both true false h = absurd (true≢false (sym h))
-both false q h = absurd (true≢false (sym h))
-
 less-or-equal : (a b : ℕ) (q : Bool) → (T q → a ≡ b) → ltb a b || q ≡ true → a ≤ b
 less-or-equal a b q e h = go (ltb a b) q (ltb→lt a b) e h
   where
@@ -149,9 +145,9 @@ within-range s l i h j b L H nan t = absurd (true≢false (sym t))
 within-range s l i h j b L H (inf true) t = absurd (true≢false (sym t))
 within-range s l i h j b L H (inf false) t = absurd (true≢false (sym t))
 within-range s l i h j b L H (fin true m e) t =
-    le-trans (le-of-eq (sym (mul-one (m * up e)))) (le-trans (from-below s l i m e (both (le (fin s l (pos i)) (fin true m e)) (le (fin true m e) (fin false h (pos j))) t .0)) (mul-le-mul-right (down e) L))
+    le-trans (le-of-eq (sym (mul-one (m * up e)))) (le-trans (from-below s l i m e (both-true (le (fin s l (pos i)) (fin true m e)) (le (fin true m e) (fin false h (pos j))) t .0)) (mul-le-mul-right (down e) L))
 within-range s l i h j b L H (fin false m e) t =
-    le-trans (le-of-eq (sym (mul-one (m * up e)))) (le-trans (from-above h j m e (both (le (fin s l (pos i)) (fin false m e)) (le (fin false m e) (fin false h (pos j))) t .1)) (mul-le-mul-right (down e) H))
+    le-trans (le-of-eq (sym (mul-one (m * up e)))) (le-trans (from-above h j m e (both-true (le (fin s l (pos i)) (fin false m e)) (le (fin false m e) (fin false h (pos j))) t .1)) (mul-le-mul-right (down e) H))
 
 pub variance-within : (x : Float) → varianceInRange x ≡ true → Within 64 x
 unfolding varianceInRange
@@ -176,7 +172,7 @@ module _ (long short : Float) (d : Direction) (W : variancesFine (Oval long shor
   variances-within : Within 64 long × Within 64 short
   unfolding variancesFine
   variances-within =
-      let h = both (varianceInRange long) (varianceInRange short) W in
+      let h = both-true (varianceInRange long) (varianceInRange short) W in
       (variance-within long (h .0), variance-within short (h .1))
 
   direction-within : Within 1 (d .cosine) × Within 1 (d .sine)
@@ -184,7 +180,7 @@ module _ (long short : Float) (d : Direction) (W : variancesFine (Oval long shor
   direction-within =
       let c = cosineInRange (d .cosine) in
       let s = cosineInRange (d .sine) in
-      let h = both c s (both (c && s) (squareInRange (d .cosine ⊗ d .cosine ⊕ d .sine ⊗ d .sine)) D .0) in
+      let h = both-true c s (both-true (c && s) (squareInRange (d .cosine ⊗ d .cosine ⊕ d .sine ⊗ d .sine)) D .0) in
       (cosine-within (d .cosine) (h .0), cosine-within (d .sine) (h .1))
 
   pub xx-within : Within mostSquares (ovalXX long short d)

@@ -16,7 +16,7 @@ use lib.Ieee.Scale.{round-same}
 use borrow.Author.Tests.{le-ltb}
 use Rattle.limits.specs.Limits.{unitsPerSquarePixel}
 use Rattle.covariance.specs.Floats.{_⊕_, _⊗_}
-use Rattle.covariance.specs.Units.{nearest, nearestUnits}
+use Rattle.covariance.specs.Units.{nearestWhole, nearestUnits}
 use Rattle.covariance.specs.Cuts.{Within}
 use Rattle.covariance.specs.Axes.{isZero, isUnit}
 use Rattle.covariance.proofs.Fractions.{signed, nearest-same}
@@ -30,29 +30,39 @@ zeroOf s = fin s 0 (pos 0)
 abbrev pub unitOf : Bool → Float
 unitOf s = fin s 1 (pos 0)
 
--- a float that equals the whole number n or −n, where n is written with no exponent, is that float
-equals : (n : ℕ) → ((s : Bool) → T (fits binary64 (fin s n (pos 0)))) → (x : Float) (t : Bool) → T (fits binary64 x)
-    → eq x (fin t n (pos 0)) ≡ true → (s : Bool) × (x ≡ fin s n (pos 0))
+-- a float that equals the whole number n or −n, where n is written with no exponent, has that size
+equals : (n : ℕ) (x : Float) (t : Bool) → eq x (fin t n (pos 0)) ≡ true → (s : Bool) × HasValue x s n 1
 unfolding eq
-equals n f nan t v h = absurd (true≢false (sym h))
-equals n f (inf s) t v h = absurd (true≢false (sym h))
-equals n f (fin s m e) t v h =
+equals n nan t h = absurd (true≢false (sym h))
+equals n (inf s) t h = absurd (true≢false (sym h))
+equals n (fin s m e) t h =
     let a = m * up e * 1 in
     let b = n * 1 * down e in
-    let same : a ≡ n * down e = eqb→eq a b (and-l (eqb a b) (Bool·beq s t || eqb a 0) (subst T (sym h) tt)) ∙ ap (λ k. k * down e) (mul-one n) in
-    (s, whole-unique binary64 (fin s m e) (fin s n (pos 0)) s n v (f s) (refl, same) (refl, mul-one (n * 1)))
+    (s, (refl, eqb→eq a b (and-l (eqb a b) (Bool·beq s t || eqb a 0) (subst T (sym h) tt)) ∙ ap (λ k. k * down e) (mul-one n)))
+
+pub zero-value : (x : Float) → isZero x ≡ true → (s : Bool) × HasValue x s 0 1
+unfolding isZero
+zero-value x h = equals 0 x false h
+
+pub unit-value : (x : Float) → isUnit x ≡ true → (s : Bool) × HasValue x s 1 1
+unfolding isUnit
+unit-value x h = go (eq x (unitOf false)) refl h
+  where
+    go : (p : Bool) → eq x (unitOf false) ≡ p → p || eq x (unitOf true) ≡ true → (s : Bool) × HasValue x s 1 1
+    go true e h = equals 1 x false e
+    go false e h = equals 1 x true h
+
+-- and where the format holds it, it is that float
+only-one : (n : ℕ) (x : Float) (s : Bool) → T (fits binary64 x) → T (fits binary64 (fin s n (pos 0))) → HasValue x s n 1 → x ≡ fin s n (pos 0)
+only-one n x s v f h = whole-unique binary64 x (fin s n (pos 0)) s n v f h (refl, mul-one (n * 1))
 
 pub is-zero : (x : Float) → T (fits binary64 x) → isZero x ≡ true → (s : Bool) × (x ≡ zeroOf s)
-unfolding isZero fits
-is-zero x v h = equals 0 (λ s. tt) x false v h
+unfolding fits
+is-zero x v h = let z = zero-value x h in (z .0, only-one 0 x (z .0) v tt (z .1))
 
 pub is-unit : (x : Float) → T (fits binary64 x) → isUnit x ≡ true → (s : Bool) × (x ≡ unitOf s)
-unfolding isUnit fits
-is-unit x v h = go (eq x (unitOf false)) refl h
-  where
-    go : (p : Bool) → eq x (unitOf false) ≡ p → p || eq x (unitOf true) ≡ true → (s : Bool) × (x ≡ unitOf s)
-    go true e h = equals 1 (λ s. tt) x false v e
-    go false e h = equals 1 (λ s. tt) x true v h
+unfolding fits
+is-unit x v h = let u = unit-value x h in (u .0, only-one 1 x (u .0) v tt (u .1))
 
 -- ---- the products of a direction along an axis
 pub unit-square : (s : Bool) → unitOf s ⊗ unitOf s ≡ unitOf false
@@ -94,11 +104,11 @@ times-zero b (inf s) t h = absurd h
 times-zero b (fin s m e) t h = (unlike s t, zero-rounds (unlike s t) (m * up e * 0) (down e * 1) (subst (λ d. 0 < d) (sym (mul-one (down e))) (down-pos e)) (mul-zero (m * up e)))
 
 -- ---- the units of a float, by the fraction that it equals
-units-of-value : (x : Float) (s : Bool) (n d : ℕ) → 0 < d → HasValue x s n d → nearestUnits x ≡ nearest (signed s (unitsPerSquarePixel * n)) d
+units-of-value : (x : Float) (s : Bool) (n d : ℕ) → 0 < d → HasValue x s n d → nearestUnits x ≡ nearestWhole (signed s (unitsPerSquarePixel * n)) d
 units-of-value nan s n d p v = absurd v
 units-of-value (inf t) s n d p v = absurd v
 units-of-value (fin t m e) s n d p v =
-    units-at t m e ∙ ap (λ t. nearest (signed t (unitsPerSquarePixel * (m * up e))) (down e)) (v .0)
+    units-at t m e ∙ ap (λ t. nearestWhole (signed t (unitsPerSquarePixel * (m * up e))) (down e)) (v .0)
     ∙ nearest-same s (unitsPerSquarePixel * (m * up e)) (down e) (unitsPerSquarePixel * n) d (down-pos e) p
     (mul-assoc unitsPerSquarePixel (m * up e) d ∙ ap (λ k. unitsPerSquarePixel * k) (v .1) ∙ sym (mul-assoc unitsPerSquarePixel n (down e)))
 

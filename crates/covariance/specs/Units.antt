@@ -13,12 +13,12 @@ abbrev pub floorOf : ℤ → ℕ → ℤ
 floorOf n d = shrZ n d
 
 -- n / d to the nearest whole number, halves upward: n / d + 1/2 rounded down
-abbrev pub nearest : ℤ → ℕ → ℤ
-nearest n d = floorOf (pos 2 *ℤ n +ℤ pos d) (2 * d)
+abbrev pub nearestWhole : ℤ → ℕ → ℤ
+nearestWhole n d = floorOf (pos 2 *ℤ n +ℤ pos d) (2 * d)
 
 -- "The result times 4096 goes to the nearest whole number, halves upward"
 unfoldable pub nearestUnits : Float → ℤ
-nearestUnits x = nearest (pos unitsPerSquarePixel *ℤ numerator x) (denominator x)
+nearestUnits x = nearestWhole (pos unitsPerSquarePixel *ℤ numerator x) (denominator x)
 
 -- "It thus lies within half a unit of 4096 times the float value": x has a value n / d, and |u − 4096 × n / d| ≤ 1/2, with
 -- both sides times 2 × d

@@ -10,9 +10,9 @@ use Rattle.limits.specs.declared.Outcome.the-variants.{Accepted}
 use Rattle.limits.proofs.Laws.{both-true, in-range}
 use Rattle.limits.proofs.Checks.{all-hold}
 use Rattle.differences.specs.Answers.{differenceChecks}
-use Rattle.differences.specs.Places.{Filled}
+use Rattle.differences.specs.Places.{PictureAndResult}
 
-filled : (n m w h : ℕ) → sidesInRange w h ≡ true → fillsPicture n w h ≡ true → fillsPicture m w h ≡ true → Filled n m w h
+filled : (n m w h : ℕ) → sidesInRange w h ≡ true → fillsPicture n w h ≡ true → fillsPicture m w h ≡ true → PictureAndResult n m w h
 filled n m w h sides p r =
     let both = both-true (sideInRange w) (sideInRange h) sides in
     let wide = in-range 1 longestSide w (both .0) in
@@ -26,7 +26,7 @@ filled n m w h sides p r =
       result = eqb-true m (w * h) r;
     }
 
-pub passed : (n m w h : ℕ) → firstRefusal (differenceChecks n m w h) ≡ Accepted → Filled n m w h
+pub passed : (n m w h : ℕ) → firstRefusal (differenceChecks n m w h) ≡ Accepted → PictureAndResult n m w h
 passed n m w h e =
     let held = all-hold (differenceChecks n m w h) e in
     filled n m w h (held .0) (held .1 .0) (held .1 .1 .0)

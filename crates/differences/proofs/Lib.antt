@@ -1,4 +1,4 @@
--- The laws that the proofs share, and the theorems on differences.
+-- The laws that the proofs share, the theorems on differences, and worked cases.
 pub mod Places
 pub mod Stencils
 pub mod Walk
@@ -6,4 +6,5 @@ pub mod Checks
 pub mod Distance
 pub mod Wholes
 pub mod Axes
-pub mod Accepted
+pub mod Table
+pub mod Cases

@@ -11,9 +11,9 @@ use lib.Dec.{T, ltb, ltb→lt, nltb→le}
 use lib.ListN.{getD}
 use lib.IntN.{ℤ, pos, negsuc, _+ℤ_}
 use borrow.Author.Tests.{lt-ltb, le-ltb}
-use Rattle.image.specs.Image.{nearestPlace, pixelAt}
+use Rattle.image.specs.Image.{nearestPlace, beside, pixelAt}
 use Rattle.differences.specs.declared.Place.{Place}
-use Rattle.differences.specs.Places.{afterOf, placeAt, beside, around, Inside}
+use Rattle.differences.specs.Places.{afterOf, placeAt, around, PlaceInside}
 
 -- ---- one step on
 
@@ -123,7 +123,7 @@ module _ (w h i : ℕ) (some : 1 ≤ w) (l : i < w * h) where
   in-column = div-lt-iff-lt-mul some .1 (rw (mul-comm h w) l)
 
   -- it and those around it lie inside
-  pub inside : Inside (w * h) (placeAt w (w * h) i)
+  pub inside : PlaceInside (w * h) (placeAt w (w * h) i)
   inside =
       let x = i % w in
       let y = i / w in

@@ -19,7 +19,7 @@ use Rattle.differences.specs.declared.Difference.{Difference}
 use Rattle.differences.specs.declared.Difference.the-variants.{FirstX, FirstY, SecondX, SecondY, Mixed}
 use Rattle.differences.specs.Stencils.{Term, stencilSum, stencilAt, stencilOf, differencesOf}
 use Rattle.differences.specs.Directional.{directional, directionalOf}
-use Rattle.differences.specs.Places.{placeAt, around, Inside, Filled}
+use Rattle.differences.specs.Places.{placeAt, around, PlaceInside, PictureAndResult}
 use Rattle.differences.proofs.Places.{Step, back, none, on, inside, around-place}
 
 -- ---- the loop
@@ -55,7 +55,7 @@ module _ {A : Type 0} {w n : ℕ} {made o : List A} {p : Place} where
   end m g l = sym (take-all (p .at) o (omega (arith, g .size))) ∙ g .done ∙ take-all (p .at) made (omega arith)
 
 -- no picture has more pixels than the largest one
-pub area : {n m w h : ℕ} → Filled n m w h → w * h ≤ longestSide * longestSide
+pub area : {n m w h : ℕ} → PictureAndResult n m w h → w * h ≤ longestSide * longestSide
 area {n} {m} {w} {h} f = le-trans (mul-le-mul-left w (f .low)) (mul-le-mul-right longestSide (f .narrow))
 
 -- ---- the entries
@@ -84,9 +84,9 @@ near SecondY = (none, on, (none, none, (none, back, tt)))
 near Mixed = (on, on, (back, on, (on, back, (back, back, tt))))
 
 -- at a place of a picture
-module _ {n m w h : ℕ} {p : Place} (f : Filled n m w h) (here : p ≡ placeAt w (w * h) (p .at)) (l : p .at < w * h) where
-  pub inside-here : Inside n p
-  inside-here = subst₂ Inside (sym (f .picture)) (sym here) (inside w h (p .at) (f .wide) l)
+module _ {n m w h : ℕ} {p : Place} (f : PictureAndResult n m w h) (here : p ≡ placeAt w (w * h) (p .at)) (l : p .at < w * h) where
+  pub inside-here : PlaceInside n p
+  inside-here = subst₂ PlaceInside (sym (f .picture)) (sym here) (inside w h (p .at) (f .wide) l)
 
   module _ (pixels : List ℕ) where
     sum-here : (which : Difference) → stencilSum (stencilOf which) (around pixels p) ≡ stencilAt (stencilOf which) w h pixels (p .at % w) (p .at / w)

@@ -3,11 +3,12 @@
 use mathlib.Core.Path.{_≡_}
 use mathlib.Core.Bool.{cond}
 use mathlib.Core.List.{List}
-use Prim.Native.Nat.{ℕ, zero, suc, _+_, _-_, _*_, _/_, _%_, _≤_, _<_}
+use Prim.Native.Nat.{ℕ, _+_, _-_, _*_, _/_, _%_, _≤_, _<_}
 use lib.Dec.{ltb}
 use lib.ListN.{getD}
-use lib.IntN.{ℤ, pos, negsuc}
+use lib.IntN.{ℤ}
 use Rattle.limits.specs.Limits.{longestSide}
+use Rattle.image.specs.Image.{beside}
 use Rattle.differences.specs.declared.Place.{Place}
 
 -- one step on, or where that is past the last, the same again
@@ -27,18 +28,12 @@ placeAt w n i =
       below = afterOf (i / w * w) w n;
     }
 
--- of three, the one before the middle, at it or after it
-abbrev pub beside : {A : Type 0} → A → A → A → ℤ → A
-beside before at after (negsuc n) = before
-beside before at after (pos zero) = at
-beside before at after (pos (suc n)) = after
-
 -- the pixel at an offset of at most one from a place
 abbrev pub around : List ℕ → Place → ℤ → ℤ → ℕ
 around pixels p dx dy = getD pixels (beside (p .above) (p .row) (p .below) dy + beside (p .left) (p .column) (p .right) dx) 0
 
 -- the place, and those around it, lie inside n pixels
-pub record Inside (n : ℕ) (p : Place) : Type 0 where
+pub record PlaceInside (n : ℕ) (p : Place) : Type 0 where
   pub left : p .left ≤ p .right
   pub column : p .column ≤ p .right
   pub above : p .above ≤ p .below
@@ -46,7 +41,7 @@ pub record Inside (n : ℕ) (p : Place) : Type 0 where
   pub corner : p .below + p .right < n
 
 -- n pixels, and m entries, are pictures of width w and height h
-pub record Filled (n m w h : ℕ) : Type 0 where
+pub record PictureAndResult (n m w h : ℕ) : Type 0 where
   pub wide : 1 ≤ w
   pub narrow : w ≤ longestSide
   pub high : 1 ≤ h

@@ -10,7 +10,7 @@ ghost use Rattle.limits.specs.Errors.{firstRefusal, heldAfter};
 ghost use Rattle.differences.specs.Stencils.{stencilSum, stencilOf, differencesOf};
 ghost use Rattle.differences.specs.Directional.{directional, directionalOf};
 ghost use Rattle.differences.specs.Answers.{differenceChecks, directionalChecks};
-ghost use Rattle.differences.specs.Places.{afterOf, placeAt, around, Inside, Filled};
+ghost use Rattle.differences.specs.Places.{afterOf, placeAt, around, PlaceInside, PictureAndResult};
 use covariance::Direction;
 use limits::ErrorCode;
 use limits::Outcome;
@@ -108,7 +108,7 @@ fn signed_difference(added: u32, taken: u32) -> i32
 }
 
 fn difference_at(which: Difference, pixels: &[u16], place: Place) -> i32
-    requires { ⌜ Inside (length (now pixels)) place ⌝ }
+    requires { ⌜ PlaceInside (length (now pixels)) place ⌝ }
     ensures { λ r. ⌜ r ≡ stencilSum (stencilOf which) (around (now (pixels .entry)) place) ⌝ }
 {
     match which {
@@ -136,7 +136,7 @@ fn difference_at(which: Difference, pixels: &[u16], place: Place) -> i32
 }
 
 fn directional_at(direction: Direction, pixels: &[u16], place: Place) -> f64
-    requires { ⌜ Inside (length (now pixels)) place ⌝ }
+    requires { ⌜ PlaceInside (length (now pixels)) place ⌝ }
     ensures { λ r. ⌜ r ≡ directional direction (stencilSum (stencilOf Difference.FirstX) (around (now (pixels .entry)) place)) (stencilSum (stencilOf Difference.FirstY) (around (now (pixels .entry)) place)) ⌝ }
 {
     let dx = difference_at(Difference::FirstX, pixels, place) as f64;
@@ -151,7 +151,7 @@ fn write_differences(
     height: usize,
     result: &mut [i32],
 )
-    requires { ⌜ Filled (length (now pixels)) (length (now result)) width height ⌝ }
+    requires { ⌜ PictureAndResult (length (now pixels)) (length (now result)) width height ⌝ }
     ensures { λ _. ⌜ now (result .exit) ≡ differencesOf which width height (now (pixels .entry)) ⌝ }
 {
     let size = width * height;
@@ -170,7 +170,7 @@ fn write_directional(
     height: usize,
     result: &mut [f64],
 )
-    requires { ⌜ Filled (length (now pixels)) (length (now result)) width height ⌝ }
+    requires { ⌜ PictureAndResult (length (now pixels)) (length (now result)) width height ⌝ }
     ensures { λ _. ⌜ now (result .exit) ≡ directionalOf direction width height (now (pixels .entry)) ⌝ }
 {
     let size = width * height;

@@ -9,6 +9,12 @@ abbrev pub nearestPlace : ℕ → ℤ → ℕ
 nearestPlace n (pos i) = min i (n - 1)
 nearestPlace n (negsuc i) = 0
 
+-- of three in a row, the one before the middle, at it or after it
+abbrev pub beside : {A : Type 0} → A → A → A → ℤ → A
+beside before at after (negsuc n) = before
+beside before at after (pos zero) = at
+beside before at after (pos (suc n)) = after
+
 -- the pixel at column x and row y: "Outside the picture the nearest pixel is used, on each axis separately"
 unfoldable pub pixelAt : ℕ → ℕ → List ℕ → ℤ → ℤ → ℕ
 pixelAt w h pixels x y = getD pixels (nearestPlace h y * w + nearestPlace w x) 0

@@ -1,5 +1,5 @@
-// Pixels of an image (document 01: a picture) that is lent as a slice with a width and a height. The function with plain
-// parameters stands here; every other reader calls it.
+// Pixels of an image (document 01: a picture) that is lent as a slice with a width and a height. The covered core of reading
+// stands here, with plain parameters; only `view` calls it, and the reading that users reach is `view`'s.
 ghost use mathlib.Core.Path.{_≡_};
 ghost use Prim.Native.Nat.{_≤_, _<_};
 ghost use Rattle.image.specs.Image.{nearestPlace};

@@ -8,3 +8,4 @@ pub mod Filling
 pub mod Jobs
 pub mod Bounds
 pub mod Theorems
+pub mod Cases

@@ -5,3 +5,4 @@ pub mod Buffers
 pub mod Divisors
 pub mod Writing
 pub mod Theorems
+pub mod Cases

@@ -4,3 +4,4 @@ pub mod Fields
 pub mod Buffers
 pub mod Divisors
 pub mod Lines
+pub mod Text

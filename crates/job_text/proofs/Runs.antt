@@ -32,7 +32,7 @@ module _ (h : Header) (first second : List ℕ) (fits : length first ≡ h .widt
   run-answers = answers (shapeOf h) (h .steps) (h .width) (h .height) first second ∙ same-checks
 
   -- what is shown of the two pictures that the run left
-  pub shown-after : {p q pixels : List ℕ} → pixels ≡ shownOf (h .steps) (h .width) (h .height) p q
+  pub shown-after : {p q pixels : List ℕ} → pixels ≡ shownOf (shapeOf h) (h .steps) (h .width) (h .height) p q
       → p ≡ runOf (shapeOf h) (h .steps) (h .width) (h .height) first second .first
       → q ≡ runOf (shapeOf h) (h .steps) (h .width) (h .height) first second .second
       → pixels ≡ shownAfter (shapeOf h) (h .steps) (h .width) (h .height) first second

@@ -6,7 +6,7 @@ use Prim.Native.Nat.{ℕ}
 use lib.Dec.{leb}
 use lib.ListN.{length, drop}
 use Rattle.limits.specs.Limits.{stepsInRange, sidesInRange}
-use Rattle.limits.specs.Errors.{Check, _otherwise_, firstRefusal}
+use Rattle.limits.specs.Errors.{Check, _otherwise_, firstRefusal, numberOf}
 use Rattle.limits.specs.declared.ErrorCode.the-variants.{TextIsNoJob, StepsOutOfRange, SideOutOfRange, WrongLength, NoKernel}
 use Rattle.limits.specs.declared.Outcome.{Outcome}
 use Rattle.limits.specs.declared.Outcome.the-variants.{Accepted, Refused}
@@ -20,6 +20,15 @@ use Rattle.job_parser.specs.Parsing.{parse}
 use Rattle.job_parser.specs.declared.Header.{Header}
 use Rattle.job_text.specs.declared.Printed.{Printed}
 use Rattle.job_text.specs.declared.Printed.the-variants as printed
+
+-- document 01's number of each answer of the call, 0 where it printed, and how many bytes it printed
+abbrev pub printedNumber : Printed → ℕ
+printedNumber (printed.Bytes n) = 0
+printedNumber (printed.Refused code) = numberOf code
+
+abbrev pub printedValues : Printed → List ℕ
+printedValues (printed.Bytes n) = n ∷ []
+printedValues (printed.Refused code) = []
 
 -- refusals 5, 6 and 11, in checking order
 abbrev pub jobChecks : Header → List Check

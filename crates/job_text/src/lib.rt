@@ -55,7 +55,7 @@ fn run_job(out: &mut [u8], header: Header, first: &mut [u16], second: &mut [u16]
     let height = header.height;
     match smoothing::run(shape, steps, width, height, first, second) {
         Outcome::Accepted => {
-            let pixels = smoothing::shown(steps, width, height, first, second);
+            let pixels = smoothing::shown(shape, steps, width, height, first, second);
             put_result(out, header, pixels)
         }
         Outcome::Refused(code) => job_printer::put_refusal(out, code),

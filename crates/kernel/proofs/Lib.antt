@@ -4,3 +4,4 @@ pub mod Moments
 pub mod Plain
 pub mod Answers
 pub mod Theorems
+pub mod Examples

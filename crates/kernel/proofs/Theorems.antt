@@ -9,14 +9,15 @@ use Prim.Native.Nat.{ℕ, suc, _+_, _-_, _*_, _≤_, _<_, min, max}
 use native.Mathlib.Nat.{mul-one, mul-comm, mul-assoc, mul-left-comm, mul-add, mul-zero, mul-le-mul-left, le-of-mul-le-mul-left, le-trans, le-of-eq, mul-pos}
 use native.Mathlib.Omega.{arith}
 use borrow.Author.Tests.{le-leb, lt-leb, leb-true}
-use lib.Dec.{T, leb}
+use lib.Dec.{T, leb, leb→le, le→leb}
 use lib.ListN.{length}
-use lib.IntN.{ℤ, pos, negsuc, natAbs, _*ℤ_}
+use lib.IntN.{ℤ, pos, negsuc, natAbs, _-ℤ_, _*ℤ_}
+use lib.Signed.{_≤ℤ_, _<ℤ_, leZ-yes, ltZ-yes}
 use Rattle.limits.specs.Limits.{stepsInRange, mostSteps}
-use Rattle.limits.specs.declared.Outcome.the-variants.{Accepted, Refused}
-use Rattle.limits.specs.declared.ErrorCode.{ErrorCode}
+use Rattle.limits.specs.declared.Outcome.the-variants.{Refused}
 use Rattle.limits.specs.declared.ErrorCode.the-variants.{NoKernel}
 use Rattle.limits.proofs.Laws.{in-range}
+use Rattle.limits.proofs.Checks.{refused-not-accepted}
 use Rattle.kernel.specs.declared.Kernel.{Kernel}
 use Rattle.kernel.specs.Offsets.{Offset, offsets, total, moment, weighted}
 use Rattle.kernel.specs.Molecule.{unitsOf, sumOf, molecule, kernelWith, kernelOf}
@@ -28,8 +29,12 @@ use Rattle.kernel.proofs.Moments.{split, every, mono, constant, second,
 use Rattle.kernel.proofs.Answers.{absent, present}
 use Rattle.kernel.proofs.Plain.{free, exists-plain, none-x, none-y, plain, Between, plus-le, minus-le, weights}
 
-accepted-not-refused : {code : ErrorCode} → Accepted ≡ Refused code → ⊥
-accepted-not-refused e = let z : _≡_ {A = ℕ} 0 1 = cc in omega arith
+-- ---- the order of signed numbers that are not negative
+is-le : {a b : ℕ} → a ≤ b → pos a ≤ℤ pos b
+is-le {a} {b} h = leZ-yes (le→leb a b h)
+
+le-is : {a b : ℕ} → pos a ≤ℤ pos b → a ≤ b
+le-is {a} {b} h = leb→le a b (h .le)
 
 -- ---- nine weights in the wide sense give the bounds
 abbrev xx-of : Offset → ℤ
@@ -230,26 +235,58 @@ exact xx xy yy k s e =
     lift (λ xx xy yy k kernel. (w : Weights xx xy yy (unitsOf k)) × (w .weights ≡ kernel .weights)) k
     (λ a xy b n h. (given a xy b n (unitsOf k) h (omega arith), sym (with-weights a xy b n k h))) xx xy yy e
 
--- refusal 11 is answered exactly where no nine weights exist
+-- the test fails exactly where no nine weights exist
+pub absent-exactly : (xx xy yy : ℤ) (k : ℕ) → stepsInRange k ≡ true
+    → (kernelExists xx xy yy (unitsOf k) ≡ false) ↔ (Weights xx xy yy (unitsOf k) → ⊥)
+absent-exactly xx xy yy k s = (
+  λ e w. true≢false (sym (needed xx xy yy (unitsOf k) w) ∙ e),
+  go (kernelExists xx xy yy (unitsOf k)) refl,
+)
+  where
+    go : (t : Bool) → kernelExists xx xy yy (unitsOf k) ≡ t → (Weights xx xy yy (unitsOf k) → ⊥) → t ≡ false
+    go true e none = absurd (none (exact xx xy yy k s e .0))
+    go false e none = refl
+
+-- and so refusal 11 is answered exactly there
 pub refused-exactly : (xx xy yy : ℤ) (k : ℕ) → stepsInRange k ≡ true
     → (kernelAnswer xx xy yy k .outcome ≡ Refused NoKernel) ↔ (Weights xx xy yy (unitsOf k) → ⊥)
-refused-exactly xx xy yy k s = (only, always (kernelExists xx xy yy (unitsOf k)) refl)
+refused-exactly xx xy yy k s = (only, λ none. ap (λ a. a .outcome) (absent xx xy yy k s (absent-exactly xx xy yy k s .1 none)))
   where
     only : kernelAnswer xx xy yy k .outcome ≡ Refused NoKernel → Weights xx xy yy (unitsOf k) → ⊥
-    only r w = accepted-not-refused (sym (ap (λ a. a .outcome) (present xx xy yy k s (needed xx xy yy (unitsOf k) w))) ∙ r)
+    only r w = refused-not-accepted (sym r ∙ ap (λ a. a .outcome) (present xx xy yy k s (needed xx xy yy (unitsOf k) w)))
 
-    always : (t : Bool) → kernelExists xx xy yy (unitsOf k) ≡ t → (Weights xx xy yy (unitsOf k) → ⊥) → kernelAnswer xx xy yy k .outcome ≡ Refused NoKernel
-    always true e none = absurd (none (exact xx xy yy k s e .0))
-    always false e none = ap (λ a. a .outcome) (absent xx xy yy k s e)
-
--- "|xy| must be at most the smaller variance, and the steps must be enough"
-pub two-conditions : (a : ℕ) (xy : ℤ) (b m : ℕ)
+-- "|xy| must be at most the smaller variance, and the steps must be enough", of variances without their signs
+pub unsigned-conditions : (a : ℕ) (xy : ℤ) (b m : ℕ)
     → (kernelExists (pos a) xy (pos b) m ≡ true) ↔ ((natAbs xy ≤ min a b) × (max a b ≤ m))
-two-conditions a xy b m = (
+unsigned-conditions a xy b m = (
   λ e. let l = leb-true (max (natAbs xy) (a + b - m)) (min a b) (sym (exists-plain a xy b m) ∙ e) in (omega arith, omega arith),
   λ h. exists-plain a xy b m ∙ le-leb (max (natAbs xy) (a + b - m)) (min a b) (omega arith),
 )
 
--- the determinant does not decide: 100 × 400 is larger than 150 × 150, and there is no kernel for any number of steps
-pub determinant : (m : ℕ) → kernelExists (pos 100) (pos 150) (pos 400) m ≡ false
-determinant m = exists-plain 100 (pos 150) 400 m ∙ lt-leb (max 150 (500 - m)) 100 (omega arith)
+-- and of any three numbers: |xy| is at most either variance, so that neither is negative, and either is at most M
+pub two-conditions : (xx xy yy : ℤ) (m : ℕ)
+    → (kernelExists xx xy yy m ≡ true) ↔ ((pos (natAbs xy) ≤ℤ xx) × (pos (natAbs xy) ≤ℤ yy) × (xx ≤ℤ pos m) × (yy ≤ℤ pos m))
+two-conditions (pos a) xy (pos b) m = (
+  λ e. let h = unsigned-conditions a xy b m .0 e in (is-le (omega arith), is-le (omega arith), is-le (omega arith), is-le (omega arith)),
+  λ h.
+      let ca = le-is (h .0) in
+      let cb = le-is (h .1) in
+      let am = le-is (h .2) in
+      let bm = le-is (h .3) in
+      unsigned-conditions a xy b m .1 (omega arith, omega arith),
+)
+two-conditions (pos a) xy (negsuc b) m = (λ e. absurd (true≢false (sym e ∙ none-y b (pos a) xy m)), λ h. absurd (h .1 .le))
+two-conditions (negsuc a) xy yy m = (λ e. absurd (true≢false (sym e ∙ none-x a xy yy m)), λ h. absurd (h .0 .le))
+
+-- ---- the determinant does not decide
+abbrev pub determinantOf : ℤ → ℤ → ℤ → ℤ
+determinantOf xx xy yy = xx *ℤ yy -ℤ xy *ℤ xy
+
+-- it may be positive where there is no kernel for any number of steps, nor for any M
+pub determinant : (pos 0 <ℤ determinantOf (pos 100) (pos 150) (pos 400)) × ((m : ℕ) → kernelExists (pos 100) (pos 150) (pos 400) m ≡ false)
+determinant = (ltZ-yes tt, λ m. exists-plain 100 (pos 150) 400 m ∙ lt-leb (max 150 (500 - m)) 100 (omega arith))
+
+-- and 0 where there is one for every number of steps: the shape of document 01's case f
+pub determinant-zero : (determinantOf (pos 1000) (pos 1000) (pos 1000) ≡ pos 0)
+    × ((k : ℕ) → 1 ≤ k → kernelExists (pos 1000) (pos 1000) (pos 1000) (unitsOf k) ≡ true)
+determinant-zero = (refl, λ k h. unsigned-conditions 1000 (pos 1000) 1000 (unitsOf k) .1 (omega arith, omega arith))

@@ -36,8 +36,9 @@ molecule xx xy yy f m =
     ∷ (f -ℤ xy) ∷ (pos 2 *ℤ (yy -ℤ f)) ∷ (f +ℤ xy)
     ∷ []
 
--- the kernel of a covariance, a free number and a step count. Where the weights are not negative, which `Sound` of
--- `proofs/Laws` says of every f between the two bounds, `natAbs` takes each as it is.
+-- the kernel of a covariance, a free number and a step count. `natAbs` only brings a weight from ℤ to ℕ, and takes each as it is:
+-- for every f from the larger of |xy| and xx + yy − M to the smaller of xx and yy, so wherever a kernel exists, no weight of the
+-- molecule is negative, and the nine weights read as signed numbers are the molecule (`with-molecule` of `proofs/Theorems`).
 unfoldable pub kernelWith : ℤ → ℤ → ℤ → ℤ → ℕ → Kernel
 kernelWith xx xy yy f k = record { weights = map natAbs (molecule xx xy yy f (unitsOf k)); sum = sumOf k }
 

@@ -1,7 +1,7 @@
 -- The nine offsets of a kernel and sums over them. Definitions only.
 use Prim.Native.Nat.{ℕ, _+_, _*_}
 use mathlib.Core.List.{List, [], _∷_}
-use lib.IntN.{ℤ, pos, negsuc, _+ℤ_, _*ℤ_}
+use lib.IntN.{ℤ, pos, negℤ, _+ℤ_, _*ℤ_}
 
 -- a place beside a pixel: dx columns to the right, dy rows down ("Here y grows with the row number")
 pub record Offset : Type 0 where
@@ -11,12 +11,16 @@ pub record Offset : Type 0 where
 abbrev pub offset : ℤ → ℤ → Offset
 offset dx dy = record { dx = dx; dy = dy }
 
+-- −1: a column to the left, or a row up
+abbrev pub minusOne : ℤ
+minusOne = negℤ (pos 1)
+
 -- "by row then column, offset −1 first in each": every list of nine weights stands in this order
 abbrev pub offsets : List Offset
 offsets =
-    offset (negsuc 0) (negsuc 0) ∷ offset (pos 0) (negsuc 0) ∷ offset (pos 1) (negsuc 0)
-    ∷ offset (negsuc 0) (pos 0) ∷ offset (pos 0) (pos 0) ∷ offset (pos 1) (pos 0)
-    ∷ offset (negsuc 0) (pos 1) ∷ offset (pos 0) (pos 1) ∷ offset (pos 1) (pos 1)
+    offset minusOne minusOne ∷ offset (pos 0) minusOne ∷ offset (pos 1) minusOne
+    ∷ offset minusOne (pos 0) ∷ offset (pos 0) (pos 0) ∷ offset (pos 1) (pos 0)
+    ∷ offset minusOne (pos 1) ∷ offset (pos 0) (pos 1) ∷ offset (pos 1) (pos 1)
     ∷ []
 
 -- the sum of a term for each offset and the weight that stands in its place

@@ -47,6 +47,11 @@ abbrev pub firstRefusal : List Check → Outcome
 firstRefusal [] = Accepted
 firstRefusal (check ∷ rest) = unless (check .holds) (Refused (check .code)) (firstRefusal rest)
 
+-- what a lent number holds at the end: the value that was answered, and where there is none what it held
+abbrev pub valueOr : List ℕ → ℕ → ℕ
+valueOr [] before = before
+valueOr (value ∷ values) before = value
+
 -- what a lent slice holds at the end: what was made where the call is accepted, and else what it held ("every lent buffer keep
 -- their contents")
 abbrev pub heldAfter : {A : Type 0} → Outcome → List A → List A → List A

@@ -14,4 +14,9 @@ pub mod Lists
 pub mod Wait
 pub mod Lone
 pub mod Theorem
+pub mod Numbers
 pub mod Orderly
+pub mod Finds
+pub mod Eleven
+pub mod Lines
+pub mod Worked

@@ -17,7 +17,7 @@ use Rattle.machine.specs.declared.Found.the-variants.{At, Nothing}
 use Rattle.machine.specs.Slots.{slotCount, emptySlot, slotAt, hasNumber, firstFrom, everySlot}
 use Rattle.machine.specs.Calls.{placeOf}
 use Rattle.machine.proofs.Search.{found}
-use Rattle.machine.specs.Order.{Filled, isZero, allZero, filledFine, unshared, slotFine, inOrder}
+use Rattle.machine.specs.Order.{FilledSlot, isZero, allZero, filledFine, unshared, slotFine, inOrder}
 
 each : (test : Slot → Bool) (xs : List Slot) (n i : ℕ) → i < n → everySlot test xs n ≡ true → test (getD xs i emptySlot) ≡ true
 unfolding everySlot
@@ -42,7 +42,7 @@ module _ (r : Service) (ordered : inOrder r ≡ true) where
   fine : (i : ℕ) → i < slotCount → slotFine r (slotAt r i) ≡ true
   fine i h = each (slotFine r) (r .slots) slotCount i h (parts .0)
 
-  pub filled-slot : (i : ℕ) → i < slotCount → (slotAt r i .number ≡ 0 → ⊥) → Filled (r .last) (slotAt r i)
+  pub filled-slot : (i : ℕ) → i < slotCount → (slotAt r i .number ≡ 0 → ⊥) → FilledSlot (r .last) (slotAt r i)
   unfolding slotFine filledFine
   filled-slot i h ne =
       let s = slotAt r i in

@@ -1,10 +1,11 @@
 -- Demand 3, of every list of calls. Assumes nothing.
 use mathlib.Core.Path.{_≡_, sym, _∙_, ap}
 use mathlib.Core.Bool.{true, not}
-use mathlib.Core.Logic.{_⊎_, inl, inr, _↔_}
+use mathlib.Core.Logic.{_⊎_, inl, inr, ⊎-elim, _↔_}
 use mathlib.Core.List.{List}
 use Prim.Native.Nat.{ℕ, _-_, _*_, _<_}
 use native.Mathlib.Omega.{arith}
+use borrow.Author.Tests.{eq-eqb, eqb-true}
 use Rattle.kernel.proofs.Theorems.{sound}
 use Rattle.covariance.specs.Shapes.{covarianceXX, covarianceXY, covarianceYY}
 use Rattle.averaging.specs.Distances.{Entrywise, Distance}
@@ -13,16 +14,16 @@ use Rattle.machine.specs.declared.Answer.the-variants.{Job, Idle}
 use Rattle.machine.specs.declared.FreeCount.the-variants.{Buffers}
 use Rattle.machine.specs.Slots.{slotCount, isEmpty, nextPlace}
 use Rattle.machine.specs.Store.{bufferCount, buffersPerSlot}
-use Rattle.machine.specs.Calls.{Call, tick, freeBuffers, freeCountOf}
-use Rattle.machine.specs.History.{Place, opened, after, since, kernelOfJob, aloneAfter, exactAfter, Submitted, jobOf, held, stepsLeft, heldCount, withdrawnIn, ticksIn}
-use Rattle.machine.specs.Demand.{answerAt, AtPlace, Demand3}
+use Rattle.machine.specs.Calls.{Call, tick, collect, freeBuffers, freeCountOf}
+use Rattle.machine.specs.History.{Place, opened, after, since, kernelOfJob, aloneAfter, exactAfter, Submitted, jobOf, held, stepsLeft, finished, heldCount, withdrawnIn, ticksIn}
+use Rattle.machine.specs.Demand.{answerAt, handedOver, AsAlone, AtPlace, Demand3}
 use Rattle.machine.proofs.Search as S
 use Rattle.machine.proofs.Counts.{count-le}
 use Rattle.machine.proofs.Invariant.{Invariant, JobFine, in-order}
 use Rattle.machine.proofs.Submits.{submits}
 use Rattle.machine.proofs.Ticks.{Ticked, idled, served, ticked}
 use Rattle.machine.proofs.Ends.{seated, withdraws, collects, hands-over}
-use Rattle.machine.proofs.Lists.{answers, after-invariant, opened-invariant}
+use Rattle.machine.proofs.Lists.{answers, after-invariant, opened-invariant, stays-finished}
 use Rattle.machine.proofs.Lone.{lone-accepted, lone-answer, lone-picture}
 use Rattle.machine.proofs.Wait.{waits}
 
@@ -37,29 +38,47 @@ near-exact j f =
     (j .width) (j .height) (j .picture) (f .full) (j .steps)
 
 module _ (p : Place) (v : Invariant p) where
-  idle-exactly : (answerAt p tick ≡ Idle) ↔ ((n : ℕ) → held (p .history) n ≡ true → stepsLeft (p .history) n ≡ 0)
+  idle-exactly : (answerAt p tick ≡ Idle) ↔ ((n : ℕ) → held (p .history) n ≡ true → finished (p .history) n ≡ true)
   idle-exactly = (only (ticked p v), always (ticked p v))
     where
-      only : Ticked p v → answerAt p tick ≡ Idle → (n : ℕ) → held (p .history) n ≡ true → stepsLeft (p .history) n ≡ 0
-      only (idled e s none) a = none
+      only : Ticked p v → answerAt p tick ≡ Idle → (n : ℕ) → held (p .history) n ≡ true → finished (p .history) n ≡ true
+      only (idled e s none) a = λ n h. eq-eqb (stepsLeft (p .history) n) 0 (none n h)
       only (served i n e h s u l t d) a = absurd (idle-no-job n (sym (d .answered) ∙ a))
 
-      always : Ticked p v → ((n : ℕ) → held (p .history) n ≡ true → stepsLeft (p .history) n ≡ 0) → answerAt p tick ≡ Idle
+      always : Ticked p v → ((n : ℕ) → held (p .history) n ≡ true → finished (p .history) n ≡ true) → answerAt p tick ≡ Idle
       always (idled e s none) f = s .answered
-      always (served i n e h s u l t d) f = absurd (let z = f n (s .is-held) in omega arith)
+      always (served i n e h s u l t d) f = absurd (let z = eqb-true (stepsLeft (p .history) n) 0 (f n (s .is-held)) in omega arith)
 
   serves-one : Ticked p v → (answerAt p tick ≡ Idle) ⊎ ((n : ℕ) × (answerAt p tick ≡ Job n) × (held (p .history) n ≡ true) × (0 < stepsLeft (p .history) n))
   serves-one (idled e s none) = inl (s .answered)
   serves-one (served i n e h s u l t d) = inr (n, d .answered, s .is-held, l)
 
   in-time : (n : ℕ) (calls : List Call) → held (p .history) n ≡ true → ticksIn calls ≡ slotCount * stepsLeft (p .history) n
-      → (stepsLeft (after p calls .history) n ≡ 0) ⊎ (withdrawnIn (since p calls) n ≡ true)
+      → (finished (after p calls .history) n ≡ true) ⊎ (withdrawnIn (since p calls) n ≡ true)
   in-time n calls h t =
       let s = seated p v n h in
       let d = S.distance slotCount (nextPlace slotCount (p .service .served)) (s .at) (S.next-lt slotCount (p .service .served) (omega arith)) (s .below) in
-      waits calls p v n (s .at) (d .0)
+      ⊎-elim (λ e. inl (eq-eqb (stepsLeft (after p calls .history) n) 0 e)) inr
+      (waits calls p v n (s .at) (d .0)
       (record { is-held = h; at = s .below; number = ap (λ x. x .number) (s .sits .is); ahead = d .1; below = d .2 }) (s .sits .known)
-      (omega (arith, d .2))
+      (omega (arith, d .2)))
+
+  -- what a collect hands over, with what its job gets alone
+  hands : (n : ℕ) (lent : List ℕ) → answerAt p (collect n lent) ≡ Job n → AsAlone (jobOf (p .history) n) (handedOver p n lent)
+  hands n lent a =
+      let job = jobOf (p .history) n in
+      let w = hands-over p v n lent a in
+      let f = w .1 .sits .fine in
+      record {
+        lone-run = w .0;
+        within-half = rw (w .0) (near-exact job f);
+        lone-service =
+            λ store mine long size. record {
+              calls-accepted = lone-accepted job f store long;
+              collect-accepted = lone-answer job f store long mine size;
+              hands-over-the-same = lone-picture job f store long mine size ∙ sym (w .0);
+            };
+      }
 
   free-is : freeCountOf (p .service) ≡ Buffers (bufferCount - buffersPerSlot * heldCount (p .history))
   unfolding freeCountOf freeBuffers
@@ -71,17 +90,13 @@ module _ (p : Place) (v : Invariant p) where
         submit-answer = λ shape k w h pixels. submits p v shape k w h pixels .answered;
         withdraw-answer = λ n. withdraws p v n .answered;
         collect-answer = λ n lent. collects p v n lent .answered;
-        handed-over = λ n lent a. hands-over p v n lent a .0;
-        within-half = λ n lent a. (let w = hands-over p v n lent a in rw (w .0) (near-exact (jobOf (p .history) n) (w .1 .sits .fine)));
-        lone-service =
-            λ n lent a store mine long size. (let w = hands-over p v n lent a in let f = w .1 .sits .fine in (
-              lone-accepted (jobOf (p .history) n) f store long,
-              lone-answer (jobOf (p .history) n) f store long mine size,
-              lone-picture (jobOf (p .history) n) f store long mine size ∙ sym (w .0),
-            ));
+        handed-over = hands;
         tick-idle = idle-exactly;
         tick-serves = serves-one (ticked p v);
         wait = in-time;
+        stays-finished =
+            λ n calls h f. eq-eqb (stepsLeft (after p calls .history) n) 0
+            (stays-finished calls p v n (seated p v n h .sits .known) (eqb-true (stepsLeft (p .history) n) 0 f));
         free-buffers = free-is;
         numbers-given = v .given;
         at-most-eight = let c = count-le (λ s. not (isEmpty s)) (p .service .slots) slotCount in omega (arith, v .counted);

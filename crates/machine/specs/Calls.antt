@@ -88,7 +88,8 @@ newSlot number shape k w h =
       height = h;
     }
 
--- "Submit fills [that seat], copies the picture to the start of buffer 2i, and gives the next number"
+-- "Submit fills [that seat], copies the picture to the start of buffer 2i, and gives the next number". After its checks there is an
+-- empty seat: the second case cannot occur (`submit-finds` of proofs/Finds).
 abbrev pub submitAt : Service → List ℕ → Shape → ℕ → ℕ → ℕ → List ℕ → Found → Result
 submitAt r store shape k w h pixels (At i) =
     record {
@@ -162,9 +163,11 @@ tickAt r store (At i) =
     }
 tickAt r store Nothing = record { answer = A.Answer.Idle; service = r; store = store; lent = [] }
 
+abbrev pub tickChecks : Service → List ℕ → Outcome
+tickChecks r store = firstRefusal ((usable r store otherwise RecordOutOfOrder) ∷ [])
+
 unfoldable pub tickOf : Service → List ℕ → Result
-tickOf r store =
-    unlessRefused (firstRefusal ((usable r store otherwise RecordOutOfOrder) ∷ [])) r store [] (tickAt r store (servedPlace r))
+tickOf r store = unlessRefused (tickChecks r store) r store [] (tickAt r store (servedPlace r))
 
 -- ---- collect and withdraw
 -- "No seat has this job number (0 included)" is refusal 7
@@ -175,7 +178,7 @@ abbrev pub isFound : Found → Bool
 isFound (At i) = true
 isFound Nothing = false
 
--- the slot that was found
+-- the slot that was found; where none was, a call is refused with 7 before it looks at the slot
 abbrev pub slotFound : Service → Found → Slot
 slotFound r (At i) = slotAt r i
 slotFound r Nothing = emptySlot
@@ -195,7 +198,8 @@ collectChecks r store number lent =
     ∷ (isFound (placeOf r number) otherwise NoSuchJob)
     ∷ handOverChecks (slotFound r (placeOf r number)) (length lent))
 
--- "Collect writes it out and empties the seat .. neither changes the store"
+-- "Collect writes it out and empties the seat .. neither changes the store". After its checks the job was found: the second case
+-- cannot occur (`collect-finds`).
 abbrev pub collectAt : Service → List ℕ → ℕ → List ℕ → Found → Result
 collectAt r store number lent (At i) =
     record { answer = A.Answer.Job number; service = emptied r i; store = store; lent = currentImage store i (slotAt r i) }
@@ -206,7 +210,13 @@ unfoldable pub collectOf : Service → List ℕ → ℕ → List ℕ → Result
 collectOf r store number lent =
     unlessRefused (collectChecks r store number lent) r store lent (collectAt r store number lent (placeOf r number))
 
--- "withdraw empties the seat, finished or not". It is lent no store, so refusal 2 is the record's half alone.
+-- a withdraw is lent no store, so refusal 2 is the record's half alone
+abbrev pub withdrawChecks : Service → ℕ → Outcome
+withdrawChecks r number =
+    firstRefusal ((inOrder r otherwise RecordOutOfOrder) ∷ (isFound (placeOf r number) otherwise NoSuchJob) ∷ [])
+
+-- "withdraw empties the seat, finished or not". After its checks the job was found: the second case cannot occur
+-- (`withdraw-finds`).
 abbrev pub withdrawAt : Service → List ℕ → ℕ → Found → Result
 withdrawAt r store number (At i) =
     record { answer = A.Answer.Job number; service = emptied r i; store = store; lent = [] }
@@ -215,17 +225,18 @@ withdrawAt r store number Nothing =
 
 unfoldable pub withdrawOf : Service → List ℕ → ℕ → Result
 withdrawOf r store number =
-    unlessRefused
-    (firstRefusal ((inOrder r otherwise RecordOutOfOrder) ∷ (isFound (placeOf r number) otherwise NoSuchJob) ∷ []))
-    r store [] (withdrawAt r store number (placeOf r number))
+    unlessRefused (withdrawChecks r number) r store [] (withdrawAt r store number (placeOf r number))
 
--- ---- the free count
+-- ---- the free count, which is lent no store
+abbrev pub countChecks : Service → Outcome
+countChecks r = firstRefusal ((inOrder r otherwise RecordOutOfOrder) ∷ [])
+
 abbrev pub freeCountWith : Outcome → ℕ → FreeCount
 freeCountWith Accepted n = F.FreeCount.Buffers n
 freeCountWith (Refused code) n = F.FreeCount.Refused code
 
 unfoldable pub freeCountOf : Service → FreeCount
-freeCountOf r = freeCountWith (firstRefusal ((inOrder r otherwise RecordOutOfOrder) ∷ [])) (freeBuffers r)
+freeCountOf r = freeCountWith (countChecks r) (freeBuffers r)
 
 -- ---- all of them as one function
 pub data Call : Type 0 where

@@ -5,7 +5,7 @@ use mathlib.Core.Bool.{Bool, true, false, _&&_}
 use mathlib.Core.Logic.{_⊎_, _↔_}
 use mathlib.Core.List.{List, [], _∷_}
 use Prim.Native.Nat.{ℕ, zero, suc, _+_, _-_, _*_, _≤_, _<_}
-use lib.Dec.{ltb, eqb}
+use lib.Dec.{ltb}
 use lib.ListN.{length, replicate}
 use Rattle.limits.specs.Limits.{fillsPicture}
 use Rattle.limits.specs.Errors.{_otherwise_, firstRefusal}
@@ -20,7 +20,7 @@ use Rattle.machine.specs.declared.FreeCount.the-variants.{Buffers}
 use Rattle.machine.specs.Slots.{slotCount}
 use Rattle.machine.specs.Store.{bufferCount, buffersPerSlot, storeLength}
 use Rattle.machine.specs.Calls.{Call, submit, tick, collect, withdraw, submittedChecks, lastNumber, freeCountOf}
-use Rattle.machine.specs.History.{Event, Place, opened, next, eventOf, after, since, accepts, Submitted, kernelOfJob, aloneAfter, exactAfter, jobOf, held, ticksOf, stepsLeft, numbers, jobCount, heldCount, withdrawnIn, ticksIn}
+use Rattle.machine.specs.History.{Event, Place, opened, next, eventOf, after, since, accepts, Submitted, kernelOfJob, aloneAfter, exactAfter, jobOf, held, ticksOf, stepsLeft, finished, numbers, jobCount, heldCount, withdrawnIn, ticksIn}
 
 -- the answer of a call that gives this number where it is not refused
 abbrev pub numberUnless : Outcome → ℕ → Answer
@@ -40,27 +40,28 @@ abbrev pub submitAnswer : List Event → Shape → ℕ → ℕ → ℕ → List 
 submitAnswer es shape k w h pixels = numberUnless (submitOutcome es shape k w h pixels) (jobCount es + 1)
 
 -- "While it is held, a withdraw of it is accepted"
+abbrev pub withdrawOutcome : List Event → ℕ → Outcome
+withdrawOutcome es n = firstRefusal ((held es n otherwise NoSuchJob) ∷ [])
+
 abbrev pub withdrawAnswer : List Event → ℕ → Answer
-withdrawAnswer es n = numberUnless (firstRefusal ((held es n otherwise NoSuchJob) ∷ [])) n
+withdrawAnswer es n = numberUnless (withdrawOutcome es n) n
 
 -- "While it is held and finished, a collect of it with a lent picture of w × h pixels is accepted; before it is finished none
 -- is"
-abbrev pub collectAnswer : List Event → ℕ → List ℕ → Answer
-collectAnswer es n lent =
-    numberUnless
-    (firstRefusal
+abbrev pub collectOutcome : List Event → ℕ → List ℕ → Outcome
+collectOutcome es n lent =
+    firstRefusal
     ((held es n otherwise NoSuchJob)
-    ∷ (eqb (stepsLeft es n) 0 otherwise StepsAreLeft)
+    ∷ (finished es n otherwise StepsAreLeft)
     ∷ (fillsPicture (length lent) (jobOf es n .width) (jobOf es n .height) otherwise WrongLength)
-    ∷ []))
-    n
+    ∷ [])
 
--- what a call answers at a place, and the picture lent to it as the call leaves it
+abbrev pub collectAnswer : List Event → ℕ → List ℕ → Answer
+collectAnswer es n lent = numberUnless (collectOutcome es n lent) n
+
+-- what a call answers at a place, the picture lent to it, and the same picture as the call leaves it
 abbrev pub answerAt : Place → Call → Answer
 answerAt p c = eventOf p c .answer
-
-abbrev pub lentAfter : Place → Call → List ℕ
-lentAfter p c = eventOf p c .lent
 
 abbrev pub lentTo : Call → List ℕ
 lentTo (submit shape k w h pixels) = pixels
@@ -68,12 +69,19 @@ lentTo tick = []
 lentTo (collect n lent) = lent
 lentTo (withdraw n) = []
 
+abbrev pub lentAfter : Place → Call → List ℕ
+lentAfter p c = eventOf p c .lent
+
+-- "Handed over is the whole lent picture as an accepted collect leaves it"
+abbrev pub handedOver : Place → ℕ → List ℕ → List ℕ
+handedOver p n lent = lentAfter p (collect n lent)
+
 -- n, .. 2, 1
 abbrev pub countdown : ℕ → List ℕ
 countdown zero = []
 countdown (suc n) = suc n ∷ countdown n
 
--- "A service opened for it only, with its submit, k ticks and a collect"
+-- ---- "A service opened for it only, with its submit, k ticks and a collect": the calls before its collect
 abbrev pub loneCalls : Submitted → List Call
 loneCalls j = submit (j .shape) (j .steps) (j .width) (j .height) (j .picture) ∷ replicate (j .steps) tick
 
@@ -81,34 +89,45 @@ unfoldable pub allAccepted : List Event → Bool
 allAccepted [] = true
 allAccepted (e ∷ es) = accepts (e .answer) && allAccepted es
 
--- what is claimed at a place of the list, of whatever is called there
+-- what such a service does, where its collect is lent the picture `mine` at the place after those calls: none of them is refused
+-- or idle, the collect of its job, which is the first, is accepted, and "hands over the same"
+pub record LoneService (end : Place) (mine same : List ℕ) : Type 0 where
+  pub calls-accepted : allAccepted (end .history) ≡ true
+  pub collect-accepted : answerAt end (collect 1 mine) ≡ Job 1
+  pub hands-over-the-same : handedOver end 1 mine ≡ same
+
+-- what is claimed of the picture that a collect hands over for a job
+pub record AsAlone (job : Submitted) (handed : List ℕ) : Type 0 where
+  -- "Alone it gets its picture after k steps of its kernel, each rounded as above"
+  pub lone-run : handed ≡ aloneAfter job (job .steps)
+  -- "each pixel that a collect hands over for a job of k steps lies within k/2 units of an exact run"
+  pub within-half : Entrywise (Distance (kernelOfJob job .sum) (job .steps)) handed (exactAfter job (job .steps))
+  -- "A service opened for it only .. hands over the same", whatever its store and the picture lent to its collect held
+  pub lone-service : (store mine : List ℕ) → length store ≡ storeLength → length mine ≡ job .width * job .height
+      → LoneService (after (opened store) (loneCalls job)) mine handed
+
+-- what is claimed at a place of the list, of whatever is called there. An event in mid-list is a call at the place after those
+-- before it, and those are a list too: so what is claimed at the place after any list is claimed of every event of every list.
 pub record AtPlace (p : Place) : Type 0 where
   pub submit-answer : (shape : Shape) (k w h : ℕ) (pixels : List ℕ)
       → answerAt p (submit shape k w h pixels) ≡ submitAnswer (p .history) shape k w h pixels
   pub withdraw-answer : (n : ℕ) → answerAt p (withdraw n) ≡ withdrawAnswer (p .history) n
   pub collect-answer : (n : ℕ) (lent : List ℕ) → answerAt p (collect n lent) ≡ collectAnswer (p .history) n lent
-  -- "Handed over is the whole lent picture as an accepted collect leaves it": the lone run
+  -- what an accepted collect hands over is what its job gets alone
   pub handed-over : (n : ℕ) (lent : List ℕ) → answerAt p (collect n lent) ≡ Job n
-      → lentAfter p (collect n lent) ≡ aloneAfter (jobOf (p .history) n) (jobOf (p .history) n .steps)
-  -- "each pixel that a collect hands over for a job of k steps lies within k/2 units of an exact run"
-  pub within-half : (n : ℕ) (lent : List ℕ) → answerAt p (collect n lent) ≡ Job n
-      → Entrywise (Distance (kernelOfJob (jobOf (p .history) n) .sum) (jobOf (p .history) n .steps))
-      (lentAfter p (collect n lent)) (exactAfter (jobOf (p .history) n) (jobOf (p .history) n .steps))
-  -- "A service opened for it only .. hands over the same", whatever its store and the picture lent to its collect held
-  pub lone-service : (n : ℕ) (lent : List ℕ) → answerAt p (collect n lent) ≡ Job n → (store mine : List ℕ)
-      → length store ≡ storeLength → length mine ≡ jobOf (p .history) n .width * jobOf (p .history) n .height
-      → (allAccepted (after (opened store) (loneCalls (jobOf (p .history) n)) .history) ≡ true)
-      × (answerAt (after (opened store) (loneCalls (jobOf (p .history) n))) (collect 1 mine) ≡ Job 1)
-      × (lentAfter (after (opened store) (loneCalls (jobOf (p .history) n))) (collect 1 mine) ≡ lentAfter p (collect n lent))
-  -- a tick answers idle exactly where no held job has steps left; any other tick answers a held job that has some
-  pub tick-idle : (answerAt p tick ≡ Idle) ↔ ((n : ℕ) → held (p .history) n ≡ true → stepsLeft (p .history) n ≡ 0)
+      → AsAlone (jobOf (p .history) n) (handedOver p n lent)
+  -- a tick answers idle exactly where each held job is finished; any other tick answers a held job that has steps left
+  pub tick-idle : (answerAt p tick ≡ Idle) ↔ ((n : ℕ) → held (p .history) n ≡ true → finished (p .history) n ≡ true)
   pub tick-serves : (answerAt p tick ≡ Idle)
       ⊎ ((n : ℕ) × (answerAt p tick ≡ Job n) × (held (p .history) n ≡ true) × (0 < stepsLeft (p .history) n))
   -- "where a held job has r steps left and 8 × r more ticks follow in the list, it is finished or was withdrawn by the last
   -- of them, whatever calls stand between"
   pub wait : (n : ℕ) (calls : List Call) → held (p .history) n ≡ true
       → ticksIn calls ≡ slotCount * stepsLeft (p .history) n
-      → (stepsLeft (after p calls .history) n ≡ 0) ⊎ (withdrawnIn (since p calls) n ≡ true)
+      → (finished (after p calls .history) n ≡ true) ⊎ (withdrawnIn (since p calls) n ≡ true)
+  -- "It is finished when none are left, and stays so when collected": after whatever calls
+  pub stays-finished : (n : ℕ) (calls : List Call) → held (p .history) n ≡ true → finished (p .history) n ≡ true
+      → finished (after p calls .history) n ≡ true
   -- "Free buffers at a place are what the free count, called there as well, answers": 16 less 2 for each job held
   pub free-buffers : freeCountOf (p .service) ≡ Buffers (bufferCount - buffersPerSlot * heldCount (p .history))
   -- "Numbers are not given twice": those given so far are 1, 2, 3 and so on

@@ -4,6 +4,8 @@ use mathlib.Core.Bool.{Bool, true, false, cond, _&&_, _||_}
 use mathlib.Core.List.{List, [], _∷_, _++_}
 use Prim.Native.Nat.{ℕ, _+_, _-_}
 use lib.Dec.{eqb}
+use lib.ListN.{length}
+use lib.IntN.{pos}
 use Rattle.covariance.specs.declared.Shape.{Shape}
 use Rattle.covariance.specs.Shapes.{kernelOfShape}
 use Rattle.kernel.specs.declared.Kernel.{Kernel}
@@ -133,7 +135,7 @@ submittedBy (withdraw m) j = j
 
 -- a job of no steps, for a number that no submit answered
 abbrev pub noJob : Submitted
-noJob = record { shape = Shape.Matrix (lib.IntN.pos 0) (lib.IntN.pos 0) (lib.IntN.pos 0); steps = 0; width = 0; height = 0; picture = [] }
+noJob = record { shape = Shape.Matrix (pos 0) (pos 0) (pos 0); steps = 0; width = 0; height = 0; picture = [] }
 
 unfoldable pub jobOf : List Event → ℕ → Submitted
 jobOf [] n = noJob
@@ -149,9 +151,13 @@ unfoldable pub ticksOf : List Event → ℕ → ℕ
 ticksOf [] n = 0
 ticksOf (e ∷ es) n = cond (starts e n) 0 (cond (serves e n) (ticksOf es n + 1) (ticksOf es n))
 
--- "Its steps left are k less the ticks since its submit that answered its number"; finished where they are 0
+-- "Its steps left are k less the ticks since its submit that answered its number"
 abbrev pub stepsLeft : List Event → ℕ → ℕ
 stepsLeft es n = jobOf es n .steps - ticksOf es n
+
+-- "It is finished when none are left"
+abbrev pub finished : List Event → ℕ → Bool
+finished es n = eqb (stepsLeft es n) 0
 
 -- the numbers that accepted submits answered, the latest first
 abbrev pub givenBy : Call → Answer → List ℕ → List ℕ
@@ -173,7 +179,7 @@ howMany test (n ∷ ns) = cond (test n) (howMany test ns + 1) (howMany test ns)
 
 -- how many jobs came before this place, and how many of them are held
 abbrev pub jobCount : List Event → ℕ
-jobCount es = lib.ListN.length (numbers es)
+jobCount es = length (numbers es)
 
 abbrev pub heldCount : List Event → ℕ
 heldCount es = howMany (held es) (numbers es)

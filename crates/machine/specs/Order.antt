@@ -31,7 +31,7 @@ filledFine last s =
     && (sidesInRange (s .width) (s .height) && (fitsBuffer (s .width) (s .height) && (leb (s .number) last && leb (s .left) (s .steps))))
 
 -- the same facts of a filled slot one by one, for contracts that ask for them
-pub record Filled (last : ℕ) (s : Slot) : Type 0 where
+pub record FilledSlot (last : ℕ) (s : Slot) : Type 0 where
   pub steps : stepsInRange (s .steps) ≡ true
   pub kernel : kernelExists (s .xx) (s .xy) (s .yy) (unitsOf (s .steps)) ≡ true
   pub sides : sidesInRange (s .width) (s .height) ≡ true

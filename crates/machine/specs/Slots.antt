@@ -1,7 +1,7 @@
 -- The slots (document 01: seats) of the service record, and searches over them. Definitions only.
 use mathlib.Core.Bool.{Bool, true, cond, _&&_}
 use mathlib.Core.List.{List}
-use Prim.Native.Nat.{ℕ, zero, suc, _+_}
+use Prim.Native.Nat.{ℕ, zero, suc, _+_, _-_}
 use lib.Dec.{ltb, eqb}
 use lib.ListN.{getD, replicate}
 use lib.IntN.{pos}
@@ -23,7 +23,7 @@ slotAt s i = getD (s .slots) i emptySlot
 
 -- "Opening: all empty, last number 0, both named seats 7"
 abbrev pub opening : Service
-opening = record { slots = replicate slotCount emptySlot; last = 0; filled = 7; served = 7 }
+opening = record { slots = replicate slotCount emptySlot; last = 0; filled = slotCount - 1; served = slotCount - 1 }
 
 -- what the searches look for: an empty slot, one with steps left, one with a number
 abbrev pub isEmpty : Slot → Bool

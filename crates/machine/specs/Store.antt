@@ -5,9 +5,11 @@ use lib.ListN.{length, take, drop}
 use Rattle.limits.specs.Limits.{bufferPixels}
 use Rattle.machine.specs.declared.Slot.{Slot}
 
+-- "The store has 16 buffers of 1024 pixels"
 abbrev pub bufferCount : ℕ
 bufferCount = 16
 
+-- "seat i has buffers 2i and 2i+1"
 abbrev pub buffersPerSlot : ℕ
 buffersPerSlot = 2
 
@@ -25,7 +27,7 @@ put start entries store = take start store ++ (entries ++ drop (start + length e
 
 -- "The current picture is in buffer 2i after an even number of steps done, in 2i+1 after an odd one": where it starts
 abbrev pub bufferAfter : ℕ → ℕ → ℕ
-bufferAfter i done = bufferPixels * (buffersPerSlot * i + done % 2)
+bufferAfter i done = bufferPixels * (buffersPerSlot * i + done % buffersPerSlot)
 
 abbrev pub pixelCount : Slot → ℕ
 pixelCount s = s .width * s .height

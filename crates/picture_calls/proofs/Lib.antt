@@ -1,2 +1,4 @@
--- The laws that the proofs share.
+-- The laws that the proofs share, and worked cases.
 pub mod Laws
+pub mod Table
+pub mod Cases

@@ -10,8 +10,6 @@ use Rattle.limits.specs.Limits.{stepsInRange}
 use Rattle.limits.specs.Errors.{_otherwise_, firstRefusal, outcomeNumber, heldAfter}
 use Rattle.limits.specs.declared.Outcome.{Outcome}
 use Rattle.limits.specs.declared.ErrorCode.the-variants.{VarianceOutOfRange, NotADirection, StepsOutOfRange, WrongLength, NoKernel}
-use Rattle.image.specs.declared.Reading.{Reading}
-use Rattle.image.specs.declared.Reading.the-variants.{Pixel, Refused}
 use Rattle.kernel.specs.declared.Kernel.{Kernel}
 use Rattle.covariance.specs.declared.Direction.{Direction}
 use Rattle.covariance.specs.declared.Shape.{Shape}
@@ -82,8 +80,3 @@ directionalCode d w h pixels result = outcomeNumber (firstRefusal (directionalCh
 unfoldable pub directionalAfter : Direction → ℕ → ℕ → List ℕ → List Float → List Float
 directionalAfter d w h pixels result =
     heldAfter (firstRefusal (directionalChecks d (length pixels) (length result) w h)) (directionalOf d w h pixels) result
-
--- ---- a pixel: what stands in the lent number after a reading (`readingNumber` of crates/image is its code)
-abbrev pub pixelAfter : Reading → ℕ → ℕ
-pixelAfter (Pixel p) before = p
-pixelAfter (Refused code) before = before

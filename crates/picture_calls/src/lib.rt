@@ -2,10 +2,10 @@
 // of its refusal, and a refusal changes nothing: lent slices and numbers then keep their contents.
 ghost use mathlib.Core.Path.{_≡_};
 ghost use lib.ListN.{length};
-ghost use Rattle.limits.specs.Errors.{outcomeNumber, heldAfter};
-ghost use Rattle.image.specs.Reading.{readingOf, readingNumber};
+ghost use Rattle.limits.specs.Errors.{outcomeNumber, valueOr, heldAfter};
+ghost use Rattle.image.specs.Reading.{readingOf, readingNumber, readingValues};
 ghost use Rattle.smoothing.specs.Runs.{runOf};
-ghost use Rattle.picture_calls.specs.Pictures.{kernelCount, kernelWords, covarianceCode, covarianceAfter, kernelCode, kernelAfter, differenceCode, differenceAfter, directionalCode, directionalAfter, pixelAfter};
+ghost use Rattle.picture_calls.specs.Pictures.{kernelCount, kernelWords, covarianceCode, covarianceAfter, kernelCode, kernelAfter, differenceCode, differenceAfter, directionalCode, directionalAfter};
 use covariance::Covariance;
 use covariance::Direction;
 use covariance::Shape;
@@ -150,9 +150,9 @@ pub fn pixel_at(
     pixel: &mut u16,
 ) -> u32
     ensures { λ r. ⌜ r ≡ readingNumber (readingOf width height (now (pixels .entry)) column row) ⌝ }
-    ensures { λ _. ⌜ now (pixel .exit) ≡ pixelAfter (readingOf width height (now (pixels .entry)) column row) (now (pixel .entry)) ⌝ }
+    ensures { λ _. ⌜ now (pixel .exit) ≡ valueOr (readingValues (readingOf width height (now (pixels .entry)) column row)) (now (pixel .entry)) ⌝ }
 {
-    match image::pixel_at(pixels, width, height, column, row) {
+    match view::read_pixel(pixels, width, height, column, row) {
         Reading::Pixel(value) => {
             *pixel = value;
             0

@@ -15,18 +15,18 @@ use Rattle.image.specs.Image.{entries}
 use Rattle.averaging.specs.Steps.{nearest}
 use Rattle.averaging.proofs.Images.{length-entries, entry}
 use Rattle.averaging.proofs.Averages.{average-at-most}
-use Rattle.row_core.specs.Prepared.{reciprocalOne, reciprocalOf, kernelWith, Prepared, StandsFor}
+use Rattle.row_core.specs.Prepared.{reciprocalOne, reciprocalOf, kernelOfCoefficients, Prepared, StandsFor}
 use Rattle.row_core.specs.Rows.{pixelIn, Pixels}
 use Rattle.row_core.specs.declared.Coefficients.{Coefficients}
 use Rattle.row_core.specs.declared.Column.{Column}
 use Rattle.row_core.proofs.Division.{divided, divided-below}
 
 -- ---- a division by the sum of the weights
-module _ (c : Coefficients) (prepared : Prepared c) (total : ℕ) (most : total ≤ kernelWith c .sum * largestPixel) where
+module _ (c : Coefficients) (prepared : Prepared c) (total : ℕ) (most : total ≤ kernelOfCoefficients c .sum * largestPixel) where
   bound : total + c .half < (largestPixel + 1) * sumOf (prepared .steps)
   bound = omega (arith, most, prepared .sound .sum, prepared .sound .low)
 
-  pub exact : (total + c .half) / (sumOf 1 / 2) * c .reciprocal / reciprocalOne ≡ nearest total (kernelWith c .sum)
+  pub exact : (total + c .half) / (sumOf 1 / 2) * c .reciprocal / reciprocalOne ≡ nearest total (kernelOfCoefficients c .sum)
   exact =
       let half : 2 * c .half / 2 ≡ c .half = omega arith in
       rw (prepared .reciprocal, divided (prepared .steps) (prepared .sound .low) (prepared .sound .high) (total + c .half) bound, half, prepared .sound .sum)
@@ -38,10 +38,10 @@ module _ (c : Coefficients) (prepared : Prepared c) (total : ℕ) (most : total 
 
 -- ---- the sum of weight times pixel, of three columns
 pub most-weighted : (c : Coefficients) → Prepared c → (l m r : Column) → Pixels l → Pixels m → Pixels r
-    → weighted (pixelIn l m r) (kernelWith c .weights) ≤ kernelWith c .sum * largestPixel
+    → weighted (pixelIn l m r) (kernelOfCoefficients c .weights) ≤ kernelOfCoefficients c .sum * largestPixel
 most-weighted c prepared l m r pl pm pr =
-    subst (λ (t : ℕ). weighted (pixelIn l m r) (kernelWith c .weights) ≤ t * largestPixel) (prepared .sound .whole ∙ sym (prepared .sound .sum))
-    (average-at-most (pixelIn l m r) largestPixel (kernelWith c .weights)
+    subst (λ (t : ℕ). weighted (pixelIn l m r) (kernelOfCoefficients c .weights) ≤ t * largestPixel) (prepared .sound .whole ∙ sym (prepared .sound .sum))
+    (average-at-most (pixelIn l m r) largestPixel (kernelOfCoefficients c .weights)
     (pl .above, (pm .above, (pr .above, (pl .at, (pm .at, (pr .at, (pl .below, (pm .below, (pr .below, tt))))))))))
 
 -- ---- the coefficients of a kernel
@@ -76,9 +76,9 @@ module _ (kernel : Kernel) (k : ℕ) (sound : Sound kernel k) where
       → c .along ≡ getD (kernel .weights) 3 0 → c .centre ≡ getD (kernel .weights) 4 0
       → c .half ≡ kernel .sum / sumOf 1 * (sumOf 1 / 2) → c .reciprocal ≡ reciprocalOf (kernel .sum / sumOf 1 * 2) → StandsFor kernel c
   stands c diagonal down across along centre half reciprocal =
-      let weights : kernelWith c .weights ≡ kernel .weights
+      let weights : kernelOfCoefficients c .weights ≡ kernel .weights
       = rw (diagonal, down, across, along, centre) (sym (nine (kernel .weights) (sound .nine) ∙ rw (sound .diagonal, sound .down, sound .across, sound .along))) in
-      let is : kernelWith c ≡ kernel = ap₂ (λ ws s. record { weights = ws; sum = s }) weights (omega (arith, half, steps-are, sound .sum)) in
+      let is : kernelOfCoefficients c ≡ kernel = ap₂ (λ ws s. record { weights = ws; sum = s }) weights (omega (arith, half, steps-are, sound .sum)) in
       record {
         is = is;
         prepared = record { steps = k; sound = subst (λ (n : Kernel). Sound n k) (sym is) sound; reciprocal = reciprocal ∙ ap reciprocalOf (omega (arith, steps-are)) };

@@ -12,11 +12,11 @@ use lib.IntN.{ℤ, pos, negsuc, _+ℤ_}
 use borrow.Author.Tests.{le-ltb}
 use Rattle.kernel.specs.Offsets.{Offset, offsets, sumOver, weighted}
 use Rattle.kernel.specs.declared.Kernel.{Kernel}
-use Rattle.image.specs.Image.{nearestPlace, pixelAt, entries, rows}
+use Rattle.image.specs.Image.{nearestPlace, beside, pixelAt, entries, rows}
 use Rattle.averaging.specs.Steps.{nearest, weightedAt, stepOf}
 use Rattle.averaging.proofs.Averages.{Each}
 use Rattle.averaging.proofs.Images.{nearest-lt, length-entries, entry}
-use Rattle.row_core.specs.Rows.{part, paddedOf, columnOf, beside, pixelIn, rowOf}
+use Rattle.row_core.specs.Rows.{part, paddedOf, columnOf, pixelIn, rowOf}
 
 -- ---- places: the one before i, as the code counts it. Those at i and after it compute so.
 pub place-before : (n i : ℕ) → nearestPlace n (pos i +ℤ negsuc 0) ≡ min (i - 1) (n - 1)

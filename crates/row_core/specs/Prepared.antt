@@ -20,8 +20,8 @@ abbrev pub reciprocalOf : ℕ → ℕ
 reciprocalOf n = (reciprocalOne + (n - 1)) / n
 
 -- five weights stand for nine
-abbrev pub kernelWith : Coefficients → Kernel
-kernelWith c =
+abbrev pub kernelOfCoefficients : Coefficients → Kernel
+kernelOfCoefficients c =
     record {
       weights =
           c .diagonal ∷ c .down ∷ c .across
@@ -34,9 +34,9 @@ kernelWith c =
 -- they stand for a kernel of some step count, and the reciprocal is that of twice the step count
 pub record Prepared (c : Coefficients) : Type 0 where
   pub steps : ℕ
-  pub sound : Sound (kernelWith c) steps
+  pub sound : Sound (kernelOfCoefficients c) steps
   pub reciprocal : c .reciprocal ≡ reciprocalOf (2 * steps)
 
 pub record StandsFor (kernel : Kernel) (c : Coefficients) : Type 0 where
-  pub is : kernelWith c ≡ kernel
+  pub is : kernelOfCoefficients c ≡ kernel
   pub prepared : Prepared c

@@ -1,13 +1,13 @@
 -- One row of a step from three lines, each a row with a pixel more on both sides. Definitions only.
 use mathlib.Core.Path.{_≡_}
 use mathlib.Core.List.{List}
-use Prim.Native.Nat.{ℕ, zero, suc, _+_, _≤_}
+use Prim.Native.Nat.{ℕ, _+_, _≤_}
 use lib.ListN.{length, getD, take, drop}
-use lib.IntN.{ℤ, pos, negsuc, _+ℤ_}
+use lib.IntN.{pos, negsuc, _+ℤ_}
 use Rattle.limits.specs.Limits.{largestPixel}
 use Rattle.kernel.specs.Offsets.{Offset, weighted}
 use Rattle.kernel.specs.declared.Kernel.{Kernel}
-use Rattle.image.specs.Image.{nearestPlace, entries}
+use Rattle.image.specs.Image.{nearestPlace, beside, entries}
 use Rattle.averaging.specs.Steps.{nearest}
 use Rattle.row_core.specs.declared.Column.{Column}
 
@@ -21,12 +21,6 @@ paddedOf row = entries (length row + 2) (λ i. getD row (nearestPlace (length ro
 
 abbrev pub columnOf : List ℕ → List ℕ → List ℕ → ℕ → Column
 columnOf up mid down x = record { above = getD up x 0; at = getD mid x 0; below = getD down x 0 }
-
--- of three in a row, the one before the middle, at it or after it
-abbrev pub beside : {A : Type 0} → A → A → A → ℤ → A
-beside before at after (negsuc n) = before
-beside before at after (pos zero) = at
-beside before at after (pos (suc n)) = after
 
 -- the pixel at an offset from the middle of three columns
 abbrev pub pixelIn : Column → Column → Column → Offset → ℕ

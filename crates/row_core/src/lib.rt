@@ -11,7 +11,7 @@ ghost use lib.ListN.{length};
 ghost use Rattle.limits.specs.Limits.{largestPixel};
 ghost use Rattle.kernel.specs.Offsets.{weighted};
 ghost use Rattle.averaging.specs.Steps.{nearest};
-ghost use Rattle.row_core.specs.Prepared.{StepKernel, kernelWith, Prepared, StandsFor};
+ghost use Rattle.row_core.specs.Prepared.{StepKernel, kernelOfCoefficients, Prepared, StandsFor};
 ghost use Rattle.row_core.specs.Rows.{Pixels, Lines, columnOf, pixelIn, paddedOf, rowOf};
 use kernel::Kernel;
 
@@ -108,8 +108,8 @@ fn weigh(weight: u32, first: u32, second: u32) -> u64
 // to say that it fits 32 lets the compiler multiply it as it does the weights.
 fn divide(total: u64, coefficients: Coefficients) -> u16
     requires { ⌜ Prepared coefficients ⌝ }
-    requires { ⌜ total ≤ kernelWith coefficients .sum * largestPixel ⌝ }
-    ensures { λ r. ⌜ r ≡ nearest total (kernelWith coefficients .sum) ⌝ }
+    requires { ⌜ total ≤ kernelOfCoefficients coefficients .sum * largestPixel ⌝ }
+    ensures { λ r. ⌜ r ≡ nearest total (kernelOfCoefficients coefficients .sum) ⌝ }
 {
     let quotient = ((total + coefficients.half) / HALF_PER_STEP) as u32;
     ((quotient as u64) * (coefficients.reciprocal as u64) / RECIPROCAL_ONE) as u16
@@ -119,7 +119,7 @@ fn divide(total: u64, coefficients: Coefficients) -> u16
 fn average(coefficients: Coefficients, left: Column, here: Column, right: Column) -> u16
     requires { ⌜ Prepared coefficients ⌝ }
     requires { ⌜ Pixels left × Pixels here × Pixels right ⌝ }
-    ensures { λ r. ⌜ r ≡ nearest (weighted (pixelIn left here right) (kernelWith coefficients .weights)) (kernelWith coefficients .sum) ⌝ }
+    ensures { λ r. ⌜ r ≡ nearest (weighted (pixelIn left here right) (kernelOfCoefficients coefficients .weights)) (kernelOfCoefficients coefficients .sum) ⌝ }
 {
     let diagonal = weigh(coefficients.diagonal, left.above, right.below);
     let down = weigh(coefficients.down, here.above, here.below);
@@ -139,7 +139,7 @@ pub fn smooth_row(
 )
     requires { ⌜ Prepared coefficients ⌝ }
     requires { ⌜ Lines (now up) (now mid) (now down) (length (now out)) ⌝ }
-    ensures { λ _. ⌜ now (out .exit) ≡ rowOf (kernelWith coefficients) (length (now (out .entry))) (now (up .entry)) (now (mid .entry)) (now (down .entry)) ⌝ }
+    ensures { λ _. ⌜ now (out .exit) ≡ rowOf (kernelOfCoefficients coefficients) (length (now (out .entry))) (now (up .entry)) (now (mid .entry)) (now (down .entry)) ⌝ }
 {
     let mut x = 0usize;
     while x < out.len() {

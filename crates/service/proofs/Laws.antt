@@ -3,9 +3,9 @@
 use mathlib.Core.Path.{_≡_, refl}
 use mathlib.Core.Bool.{Bool, true, false, _&&_}
 use mathlib.Core.List.{List, [], _∷_}
-use Prim.Native.Nat.{ℕ, _+_}
+use Prim.Native.Nat.{ℕ, _+_, _<_}
 use native.Mathlib.Omega.{arith}
-use borrow.Author.Tests.{eqb-true}
+use borrow.Author.Tests.{eqb-true, ltb-true}
 use lib.Dec.{eqb}
 use lib.ListN.{length}
 use lib.IntN.{ℤ}
@@ -25,16 +25,24 @@ use Rattle.machine.specs.declared.Answer.{Answer}
 use Rattle.machine.specs.declared.Answer.the-variants.{Refused}
 use Rattle.machine.specs.declared.Found.{Found}
 use Rattle.machine.specs.declared.Found.the-variants.{At, Nothing}
+use Rattle.machine.specs.Slots.{slotCount, slotAt, hasStepsLeft, nextPlace}
 use Rattle.machine.specs.Store.{storeLength}
 use Rattle.machine.specs.Order.{inOrder, usable}
 use Rattle.machine.specs.Calls.{Result, jobChecks, roomChecks, submitChecks, submitAt, submitOf, emptyPlace, newSlot, tickAt, tickOf, servedPlace, placeOf, collectChecks, collectOf, unlessRefused}
+use Rattle.machine.proofs.Search as S
 use Rattle.service.specs.declared.Turn.{Turn}
-use Rattle.service.specs.Called.{calledOf, fillAt, handOver, afterTurn, TurnOf}
+use Rattle.service.specs.Called.{calledOf, fillAt, handOver, turnAt, turnUnless, turnOf, noTurn, afterTurn}
 
 pub usable-parts : (r : Service) (store : List ℕ) → (inOrder r && eqb (length store) storeLength) ≡ true → (inOrder r ≡ true) × (length store ≡ storeLength)
 usable-parts r store e =
     let w = both-true (inOrder r) (eqb (length store) storeLength) e in
     (w .0, eqb-true (length store) storeLength (w .1))
+
+-- the slot that is served lies below eight and has steps left
+pub served-found : (r : Service) (i : ℕ) → servedPlace r ≡ At i → (i < slotCount) × (0 < slotAt r i .left)
+served-found r i e =
+    let w = S.found hasStepsLeft (r .slots) slotCount (omega arith) slotCount (nextPlace slotCount (r .served)) i (S.next-lt slotCount (r .served) (omega arith)) e in
+    (w .0, ltb-true _ _ (w .1))
 
 -- ---- refusal 2
 abbrev pub outOfOrder : Service → List ℕ → List ℕ → Result
@@ -49,6 +57,10 @@ module _ (r : Service) (store : List ℕ) (bad : (inOrder r && eqb (length store
   unfolding tickOf usable
   tick-unusable = rw bad
 
+  pub turn-unusable : turnOf r store ≡ noTurn (Refused RecordOutOfOrder)
+  unfolding turnOf usable
+  turn-unusable = rw bad
+
   pub collect-unusable : (n : ℕ) (lent : List ℕ) → collectOf r store n lent ≡ outOfOrder r store lent
   unfolding collectOf collectChecks usable
   collect-unusable n lent = rw bad
@@ -58,6 +70,10 @@ module _ (r : Service) (store : List ℕ) (good : (inOrder r && eqb (length stor
   pub tick-found : (f : Found) → servedPlace r ≡ f → tickOf r store ≡ tickAt r store f
   unfolding tickOf usable
   tick-found f e = rw (good, e)
+
+  pub turn-found : (f : Found) → servedPlace r ≡ f → turnOf r store ≡ turnAt r f
+  unfolding turnOf usable
+  turn-found f e = rw (good, e)
 
   pub collect-found : (n i : ℕ) (lent : List ℕ) → placeOf r n ≡ At i → collectOf r store n lent ≡ handOver r store n lent i
   unfolding collectOf collectChecks usable
@@ -90,10 +106,30 @@ module _ (r : Service) (store : List ℕ) (good : (inOrder r && eqb (length stor
   unfolding submitOf submitChecks usable
   submit-checked shape k w h pixels o fine e = rw (good, fine .0, fine .1, e)
 
--- a tick by its turn: the answer, and the record with what changed in it
-pub turn-called : (r : Service) (t : Turn) (ticked : Result) → TurnOf r t ticked → (answer : Answer) → t .answer ≡ answer
-    → record { answer = answer; service = afterTurn answer r (t .place) (t .left) } ≡ calledOf ticked
-turn-called r t ticked is answer e = rw (← e, is .service-is, is .answer-is)
+-- ---- a tick by its turn
+-- that a turn is what a tick answers and changes in the record
+pub record TurnOf (r : Service) (t : Turn) (ticked : Result) : Type 0 where
+  pub answer-is : t .answer ≡ ticked .answer
+  pub service-is : afterTurn (t .answer) r (t .place) (t .left) ≡ ticked .service
+  pub within : t .place < slotCount
+
+pub turn-is : (r : Service) (store : List ℕ) → TurnOf r (turnOf r store) (tickOf r store)
+unfolding tickOf turnOf
+turn-is r store = go (firstRefusal ((usable r store otherwise RecordOutOfOrder) ∷ [])) (servedPlace r) refl
+  where
+    go : (o : Outcome) (f : Found) → servedPlace r ≡ f → TurnOf r (turnUnless o (turnAt r f)) (unlessRefused o r store [] (tickAt r store f))
+    go O.Accepted (At i) e = record { answer-is = refl; service-is = refl; within = served-found r i e .0 }
+    go O.Accepted Nothing e = record { answer-is = refl; service-is = refl; within = omega arith }
+    go (O.Refused code) f e = record { answer-is = refl; service-is = refl; within = omega arith }
+
+-- its answer, and the record with what changed in it
+pub turn-called : (r : Service) (store : List ℕ) (t : Turn) → t ≡ turnOf r store → (answer : Answer) → t .answer ≡ answer
+    → record { answer = answer; service = afterTurn answer r (t .place) (t .left) } ≡ calledOf (tickOf r store)
+turn-called r store t is answer e = let w = turn-is r store in rw (← e, is, w .service-is, w .answer-is)
+
+-- the place that it names lies below eight
+pub turn-within : (r : Service) (store : List ℕ) (t : Turn) → t ≡ turnOf r store → t .place < slotCount
+turn-within r store t is = rw is (turn-is r store .within)
 
 -- ---- the answer for a shape
 pub record ShapeIs (shape : Shape) (xx xy yy : ℤ) : Type 0 where

@@ -1,2 +1,3 @@
--- The laws that the proofs share.
+-- The laws that the proofs share, and worked turns of a tick.
 pub mod Laws
+pub mod Cases

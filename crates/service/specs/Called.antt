@@ -1,10 +1,12 @@
 -- What the running calls and their parts hand back, in terms of the state machine. Definitions only.
 use mathlib.Core.Path.{_≡_}
-use mathlib.Core.List.{List}
-use Prim.Native.Nat.{ℕ, _<_}
+use mathlib.Core.List.{List, [], _∷_}
+use Prim.Native.Nat.{ℕ, _-_, _<_}
 use lib.ListN.{length, set}
-use Rattle.limits.specs.Errors.{firstRefusal}
-use Rattle.limits.specs.declared.ErrorCode.the-variants.{NoFreeBuffers}
+use Rattle.limits.specs.Errors.{_otherwise_, firstRefusal}
+use Rattle.limits.specs.declared.Outcome as O
+use Rattle.limits.specs.declared.Outcome.{Outcome}
+use Rattle.limits.specs.declared.ErrorCode.the-variants.{RecordOutOfOrder, NoFreeBuffers}
 use Rattle.machine.specs.declared.Slot.{Slot}
 use Rattle.machine.specs.declared.Service.{Service}
 use Rattle.machine.specs.declared.Answer.{Answer}
@@ -13,8 +15,8 @@ use Rattle.machine.specs.declared.Found.{Found}
 use Rattle.machine.specs.declared.Found.the-variants.{At, Nothing}
 use Rattle.machine.specs.Slots.{slotCount, slotAt}
 use Rattle.machine.specs.Store.{storeLength, put, bufferAfter}
-use Rattle.machine.specs.Calls.{Result, turnedAt, handOverChecks, unlessRefused, collectAt}
-use Rattle.machine.specs.Order.{Filled}
+use Rattle.machine.specs.Calls.{Result, turnedAt, servedPlace, handOverChecks, unlessRefused, collectAt}
+use Rattle.machine.specs.Order.{usable, FilledSlot}
 use Rattle.service.specs.declared.Called as C
 use Rattle.service.specs.declared.Turn as T
 
@@ -44,16 +46,29 @@ pub record Ready (n : ℕ) (s : Slot) (i : ℕ) : Type 0 where
   pub at : i < slotCount
   pub left : 0 < s .left
   pub last : ℕ
-  pub filled : Filled last s
+  pub filled : FilledSlot last s
+
+-- the turn of a tick that makes no step: its answer alone
+abbrev pub noTurn : Answer → T.Turn
+noTurn answer = record { answer = answer; place = 0; left = 0 }
+
+-- "Tick serves .. the first seat with steps left: one step .. it answers the job number. It answers idle where no seat has steps
+-- left": the slot that is served, and its steps left after that step
+abbrev pub turnAt : Service → Found → T.Turn
+turnAt r (At i) = record { answer = Job (slotAt r i .number); place = i; left = slotAt r i .left - 1 }
+turnAt r Nothing = noTurn Idle
+
+-- "a refusal answers its number alone"
+abbrev pub turnUnless : Outcome → T.Turn → T.Turn
+turnUnless O.Outcome.Accepted turn = turn
+turnUnless (O.Outcome.Refused code) turn = noTurn (Refused code)
+
+-- a tick without the record after it: its answer, and what it changes in the record
+unfoldable pub turnOf : Service → List ℕ → T.Turn
+turnOf r store = turnUnless (firstRefusal ((usable r store otherwise RecordOutOfOrder) ∷ [])) (turnAt r (servedPlace r))
 
 -- the record after a tick that answered so: with no step it stays
 abbrev pub afterTurn : Answer → Service → ℕ → ℕ → Service
 afterTurn (Job n) r i left = turnedAt r i left
 afterTurn Idle r i left = r
 afterTurn (Refused code) r i left = r
-
--- that a turn is what a tick answers and changes in the record
-pub record TurnOf (r : Service) (t : T.Turn) (ticked : Result) : Type 0 where
-  pub answer-is : t .answer ≡ ticked .answer
-  pub service-is : afterTurn (t .answer) r (t .place) (t .left) ≡ ticked .service
-  pub within : t .place < slotCount

@@ -13,7 +13,7 @@ ghost use Rattle.machine.specs.Slots.{slotCount, slotAt, opening as openingOf};
 ghost use Rattle.machine.specs.Store.{storeLength, bufferAfter, put, stepsDone};
 ghost use Rattle.machine.specs.Order.{inOrder};
 ghost use Rattle.machine.specs.Calls.{turnedAt, submitOf, tickOf, collectOf, withdrawOf, freeCountOf, emptyPlace, placeOf, emptied as emptiedOf, freeBuffers, jobChecks, roomChecks, nextImage};
-ghost use Rattle.service.specs.Called.{calledOf, fillAt, handOver, Ready, TurnOf};
+ghost use Rattle.service.specs.Called.{calledOf, fillAt, handOver, turnOf, Ready};
 use covariance::Covariance;
 use covariance::Shape;
 use limits::ErrorCode;
@@ -113,12 +113,15 @@ pub fn withdraw(service: Service, number: u64) -> Called
     refused(service, ErrorCode::RecordOutOfOrder)
 }
 
-// The place where the picture of a slot stands after so many steps.
+// The buffers of a slot as many as places are counted.
+const BUFFERS_OF_SLOT: usize = BUFFERS_PER_SLOT as usize;
+
+// The place where the picture of a slot stands after so many steps: each step goes to the slot's other buffer.
 fn buffer_after(place: usize, done: usize) -> usize
     requires { ⌜ place < slotCount ⌝ }
     ensures { λ r. ⌜ r ≡ bufferAfter place done ⌝ }
 {
-    limits::BUFFER_PIXELS * (2 * place + done % 2)
+    limits::BUFFER_PIXELS * (BUFFERS_OF_SLOT * place + done % BUFFERS_OF_SLOT)
 }
 
 // Refusals 5 to 13 of a submit, for the covariance of its shape.
@@ -244,30 +247,24 @@ fn step_slot(store: &mut [u16], slot: Slot, place: usize)
 }
 
 // The answer of a tick with what it changed in the record: the steps left of the slot that was served. Where there was no step
-// the answer alone counts.
+// place and left are 0.
 pub struct Turn {
     pub answer: Answer,
     pub place: usize,
     pub left: u32,
 }
 
-fn no_turn(answer: Answer) -> Turn
-    ensures { λ r. ⌜ r ≡ record { answer = answer; place = 0; left = 0 } ⌝ }
-{
-    Turn {
-        answer,
-        place: 0,
-        left: 0,
-    }
-}
-
 // A tick without the record after it: one step of the picture of the slot whose turn it is.
 pub fn take_turn(service: Service, store: &mut [u16]) -> Turn
-    ensures { λ r. ⌜ TurnOf service r (tickOf service (now (store .entry))) ⌝ }
+    ensures { λ r. ⌜ r ≡ turnOf service (now (store .entry)) ⌝ }
     ensures { λ _. ⌜ now (store .exit) ≡ tickOf service (now (store .entry)) .store ⌝ }
 {
     if !usable(service, store.len()) {
-        return no_turn(Answer::Refused(ErrorCode::RecordOutOfOrder));
+        return Turn {
+            answer: Answer::Refused(ErrorCode::RecordOutOfOrder),
+            place: 0,
+            left: 0,
+        };
     }
     let start = slots::next_place(service.served as usize);
     match slots::find(service, Sought::WithStepsLeft, start) {
@@ -280,7 +277,11 @@ pub fn take_turn(service: Service, store: &mut [u16]) -> Turn
                 left: slot.left - 1,
             }
         }
-        Found::Nothing => no_turn(Answer::Idle),
+        Found::Nothing => Turn {
+            answer: Answer::Idle,
+            place: 0,
+            left: 0,
+        },
     }
 }
 

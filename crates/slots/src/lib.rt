@@ -18,8 +18,10 @@ use machine::SLOTS;
 use machine::Service;
 use machine::Slot;
 
-// The slots as many as a field of the record counts them.
+// The slots as many as a field of the record counts them, and the last of them: the search after it begins at slot 0.
 const PLACES: u32 = SLOTS as u32;
+
+const LAST_PLACE: u32 = PLACES - 1;
 
 // What a search looks for.
 pub enum Sought {
@@ -52,8 +54,8 @@ pub fn opening() -> Service
     Service {
         slots,
         last: 0,
-        filled: 7,
-        served: 7,
+        filled: LAST_PLACE,
+        served: LAST_PLACE,
     }
 }
 

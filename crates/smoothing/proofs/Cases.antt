@@ -3,7 +3,7 @@
 use mathlib.Core.Path.{_≡_, refl}
 use mathlib.Core.Bool.{false}
 use mathlib.Core.List.{List, [], _∷_, map}
-use Prim.Native.Nat.{ℕ, _*_}
+use Prim.Native.Nat.{ℕ}
 use lib.IntN.{pos}
 use lib.Ieee.{Float, nan, fin, add, mul, le}
 use Rattle.limits.specs.Errors.{firstRefusal, outcomeNumber}
@@ -63,19 +63,26 @@ pub requested : map (λ r. outcomeNumber (firstRefusal (runChecks (r .shape) (r 
 unfolding variancesFine directionFine varianceInRange directionInRange cosineInRange squareInRange inRange covarianceXX covarianceXY covarianceYY nearestUnits kernelExists add mul le
 requested = refl
 
--- ---- k steps that go half to the left and half to the right, over the row 0 4 0 0, the second picture full of nines: k, the
--- two pictures after the run, and what is shown of them. After 65 steps nothing has changed, and nothing is shown.
-abbrev pub after : ℕ → Result
-after k = runOf (Matrix (pos (4096 * k)) (pos 0) (pos 0)) k 4 1 (0 ∷ 4 ∷ 0 ∷ 0 ∷ []) (9 ∷ 9 ∷ 9 ∷ 9 ∷ [])
+-- ---- k steps of a covariance xx, 0, 0 over the row 0 4 0 0, the second picture full of nines: xx, k, the two pictures after the
+-- run, and what is shown of them. With xx = 4096 × k each step goes half to the left and half to the right. After 65 steps, and
+-- where no kernel exists, nothing has changed, and nothing is shown.
+abbrev pub pushes : ℕ → Shape
+pushes xx = Matrix (pos xx) (pos 0) (pos 0)
 
-abbrev pub runs : List (ℕ × List ℕ × List ℕ × List ℕ)
+abbrev pub after : ℕ → ℕ → Result
+after xx k = runOf (pushes xx) k 4 1 (0 ∷ 4 ∷ 0 ∷ 0 ∷ []) (9 ∷ 9 ∷ 9 ∷ 9 ∷ [])
+
+abbrev pub runs : List (ℕ × ℕ × List ℕ × List ℕ × List ℕ)
 runs =
-    (1, 0 ∷ 4 ∷ 0 ∷ 0 ∷ [], 2 ∷ 0 ∷ 2 ∷ 0 ∷ [], 2 ∷ 0 ∷ 2 ∷ 0 ∷ [])
-    ∷ (2, 1 ∷ 2 ∷ 0 ∷ 1 ∷ [], 2 ∷ 0 ∷ 2 ∷ 0 ∷ [], 1 ∷ 2 ∷ 0 ∷ 1 ∷ [])
-    ∷ (3, 1 ∷ 2 ∷ 0 ∷ 1 ∷ [], 2 ∷ 1 ∷ 2 ∷ 1 ∷ [], 2 ∷ 1 ∷ 2 ∷ 1 ∷ [])
-    ∷ (65, 0 ∷ 4 ∷ 0 ∷ 0 ∷ [], 9 ∷ 9 ∷ 9 ∷ 9 ∷ [], [])
+    (4096, 1, 0 ∷ 4 ∷ 0 ∷ 0 ∷ [], 2 ∷ 0 ∷ 2 ∷ 0 ∷ [], 2 ∷ 0 ∷ 2 ∷ 0 ∷ [])
+    ∷ (8192, 2, 1 ∷ 2 ∷ 0 ∷ 1 ∷ [], 2 ∷ 0 ∷ 2 ∷ 0 ∷ [], 1 ∷ 2 ∷ 0 ∷ 1 ∷ [])
+    ∷ (12288, 3, 1 ∷ 2 ∷ 0 ∷ 1 ∷ [], 2 ∷ 1 ∷ 2 ∷ 1 ∷ [], 2 ∷ 1 ∷ 2 ∷ 1 ∷ [])
+    ∷ (266240, 65, 0 ∷ 4 ∷ 0 ∷ 0 ∷ [], 9 ∷ 9 ∷ 9 ∷ 9 ∷ [], [])
+    ∷ (8193, 2, 0 ∷ 4 ∷ 0 ∷ 0 ∷ [], 9 ∷ 9 ∷ 9 ∷ 9 ∷ [], [])
     ∷ []
 
-pub ran : map (λ row. (row .0, after (row .0) .first, after (row .0) .second, shownOf (row .0) 4 1 (after (row .0) .first) (after (row .0) .second))) runs ≡ runs
+pub ran : map (λ row. let a = after (row .0) (row .1) in
+    (row .0, row .1, a .first, a .second, shownOf (pushes (row .0)) (row .1) 4 1 (a .first) (a .second))) runs
+    ≡ runs
 unfolding variancesFine directionFine covarianceXX covarianceXY covarianceYY kernelExists kernelWith pixelAt entries rows weightedAt stepOf iterate runOf shownOf
 ran = refl

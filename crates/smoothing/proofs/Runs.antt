@@ -23,45 +23,44 @@ use Rattle.covariance.specs.Shapes.{covarianceXX, covarianceXY, covarianceYY, k
 use Rattle.covariance.specs.Answer.{covarianceAnswer}
 use Rattle.covariance.proofs.Answers.{Passed, stopped, kernel-passed}
 use Rattle.row_core.specs.Prepared.{StepKernel}
-use Rattle.stepping.specs.Step.{Filled}
+use Rattle.stepping.specs.Step.{PicturePair}
+use Rattle.smoothing.specs.Checks.{pictureChecks}
 use Rattle.smoothing.specs.Runs.{runChecks, runWith}
-use Rattle.smoothing.specs.Shown.{shownChecks}
 use Rattle.limits.proofs.Checks.{refused-not-accepted, all-hold, in-turn}
 
--- ---- the pictures
-module _ (k w h n m : ℕ) (accepted : firstRefusal (shownChecks k w h n m) ≡ Accepted) where
-  pub some-steps : 1 ≤ k
-  some-steps = in-range 1 mostSteps k (all-hold (shownChecks k w h n m) accepted .0) .0
-
-  pub filled : Filled n m w h
-  filled =
-      let holds = all-hold (shownChecks k w h n m) accepted in
-      let sides = both-true (sideInRange w) (sideInRange h) (holds .1 .0) in
-      record {
-        wide = in-range 1 longestSide w (sides .0) .0;
-        high = in-range 1 longestSide h (sides .1) .0;
-        narrow = in-range 1 longestSide w (sides .0) .1;
-        source = eqb-true n (w * h) (holds .1 .1 .0);
-        target = eqb-true m (w * h) (holds .1 .1 .1 .0);
-      }
+-- ---- the pictures of a run that no check refuses
+module _ (shape : Shape) (k w h n m : ℕ) (accepted : firstRefusal (runChecks shape k w h n m) ≡ Accepted) where
+  pub fills-pair : PicturePair n m w h × (1 ≤ k)
+  fills-pair =
+      let holds = all-hold (runChecks shape k w h n m) accepted .1 .1 in
+      let sides = both-true (sideInRange w) (sideInRange h) (holds .1 .0) in (
+        record {
+          wide = in-range 1 longestSide w (sides .0) .0;
+          high = in-range 1 longestSide h (sides .1) .0;
+          narrow = in-range 1 longestSide w (sides .0) .1;
+          source = eqb-true n (w * h) (holds .1 .1 .0);
+          target = eqb-true m (w * h) (holds .1 .1 .1 .0);
+        },
+        in-range 1 mostSteps k (holds .0) .0,
+      )
 
 -- ---- the checks of a run: those of its shape, then those of its pictures, then that of its kernel
-module _ (shape : Shape) (k w h n m : ℕ) where
-  abbrev kernelCheck : List Check
-  kernelCheck = (kernelExists (covarianceXX shape) (covarianceXY shape) (covarianceYY shape) (unitsOf k) otherwise NoKernel) ∷ []
+abbrev pub kernelCheck : Shape → ℕ → List Check
+kernelCheck shape k = (kernelExists (covarianceXX shape) (covarianceXY shape) (covarianceYY shape) (unitsOf k) otherwise NoKernel) ∷ []
 
+module _ (shape : Shape) (k w h n m : ℕ) where
   pub shape-refused : (code : ErrorCode) → covarianceAnswer shape ≡ Covariance.Refused code → firstRefusal (runChecks shape k w h n m) ≡ Refused code
-  shape-refused code e = stopped shape code (shownChecks k w h n m ++ kernelCheck) e
+  shape-refused code e = stopped shape code (pictureChecks k w h n m ++ kernelCheck shape k) e
 
   module _ (xx xy yy : ℤ) (p : Passed shape xx xy yy) where
-    pub pictures-refused : (code : ErrorCode) → firstRefusal (shownChecks k w h n m) ≡ Refused code → firstRefusal (runChecks shape k w h n m) ≡ Refused code
-    pictures-refused code e = rw (p .variances, p .direction) (in-turn (shownChecks k w h n m) kernelCheck ∙ rw e)
+    pub pictures-refused : (code : ErrorCode) → firstRefusal (pictureChecks k w h n m) ≡ Refused code → firstRefusal (runChecks shape k w h n m) ≡ Refused code
+    pictures-refused code e = rw (p .variances, p .direction) (in-turn (pictureChecks k w h n m) (kernelCheck shape k) ∙ rw e)
 
-    pub kernel-decides : firstRefusal (shownChecks k w h n m) ≡ Accepted
+    pub kernel-decides : firstRefusal (pictureChecks k w h n m) ≡ Accepted
         → kernelAnswer xx xy yy k ≡ answerWith (firstRefusal (runChecks shape k w h n m)) (kernelOfShape shape k)
     kernel-decides e =
-        let steps = all-hold (shownChecks k w h n m) e .0 in
-        kernel-passed shape k p ∙ rw (p .variances, p .direction, in-turn (shownChecks k w h n m) kernelCheck, e, steps)
+        let steps = all-hold (pictureChecks k w h n m) e .0 in
+        kernel-passed shape k p ∙ rw (p .variances, p .direction, in-turn (pictureChecks k w h n m) (kernelCheck shape k), e, steps)
 
   -- the kernel of an accepted run is one to make steps with
   pub kernel-sound : firstRefusal (runChecks shape k w h n m) ≡ Accepted → Sound (kernelOfShape shape k) k
@@ -75,6 +74,10 @@ module _ (kernel : Kernel) (k : ℕ) where
       → answerWith outcome kernel .outcome ≡ Accepted → StepKernel (answerWith outcome kernel .kernel)
   step-kernel Accepted s e = record { steps = k; sound = s refl }
   step-kernel (Refused code) s e = absurd (refused-not-accepted e)
+
+  pub same-outcome : (outcome : Outcome) → answerWith outcome kernel .outcome ≡ outcome
+  same-outcome Accepted = refl
+  same-outcome (Refused code) = refl
 
   pub same-run : (w h : ℕ) (first second : List ℕ) (outcome : Outcome)
       → runWith (answerWith outcome kernel .outcome) (answerWith outcome kernel .kernel) k w h first second ≡ runWith outcome kernel k w h first second

@@ -1,74 +1,44 @@
 -- The theorems on runs. They join the contracts of `run` and `shown`, which are equations with `runOf` and `shownOf`: the run
--- answers the first refusal that applies, and then nothing has changed; after an accepted run the reader is shown step k, each
--- pixel of it within k / 2 of the exact run; what the second picture held counts for nothing; and an empty part is shown
--- exactly where a check fails. Assumes nothing.
+-- answers the first refusal that applies, and then nothing has changed; refusal 11 is answered exactly where no kernel exists;
+-- after an accepted run the reader is shown step k, each pixel of it within k / 2 of the exact run; what the second picture held
+-- counts for nothing; and an empty part is shown exactly where the run with the same arguments is refused. Assumes nothing.
 use mathlib.Core.Path.{_≡_, refl, sym, ap, _∙_}
 use mathlib.Core.Bool.{Bool, true, false, cond}
 use mathlib.Core.Logic.{_↔_}
-use mathlib.Core.List.{List, []}
+use mathlib.Core.List.{List, [], _++_}
 use Prim.Native.Nat.{ℕ, _-_, _*_, _≤_}
 use native.Mathlib.Nat.{le-of-eq, mul-pos}
 use native.Mathlib.Omega.{arith}
 use lib.ListN.{length, take}
 use lib.Seq.{take-all}
-use borrow.Author.Tests.{eq-eqb, eqb-true}
-use Rattle.limits.specs.Errors.{firstRefusal}
+use Rattle.limits.specs.Errors.{Check, unless, firstRefusal}
 use Rattle.limits.specs.declared.Outcome.{Outcome}
 use Rattle.limits.specs.declared.Outcome.the-variants.{Accepted, Refused}
 use Rattle.limits.specs.declared.ErrorCode.{ErrorCode}
-use Rattle.kernel.specs.Molecule.{sumOf}
+use Rattle.limits.specs.declared.ErrorCode.the-variants.{NoKernel}
+use Rattle.limits.proofs.Checks.{refused-not-accepted, all-hold, in-turn}
+use Rattle.kernel.specs.Molecule.{unitsOf, sumOf}
+use Rattle.kernel.specs.Existence.{Weights}
 use Rattle.covariance.specs.declared.Shape.{Shape}
+use Rattle.covariance.specs.Shapes.{covarianceXX, covarianceXY, covarianceYY, shapeHasKernel, kernelOfShape}
+use Rattle.covariance.specs.Answer.{shapeChecks}
+use Rattle.covariance.proofs.Refusals.{shape-refused-exactly}
 use Rattle.averaging.specs.Steps.{stepsOf, exactOf}
 use Rattle.averaging.specs.Distances.{Entrywise, Distance}
 use Rattle.averaging.proofs.Runs.{length-steps}
 use Rattle.averaging.proofs.Distance.{distance}
-use Rattle.stepping.specs.Step.{Filled}
-use Rattle.covariance.specs.Shapes.{kernelOfShape}
-use Rattle.smoothing.specs.Runs.{runChecks, isEven, stepsInFirst, stepsInSecond, runWith, runOf}
-use Rattle.smoothing.specs.Shown.{shownChecks, shownOf}
-use Rattle.limits.proofs.Checks.{all-hold}
-use Rattle.smoothing.proofs.Runs.{filled, kernel-sound}
+use Rattle.stepping.specs.Step.{PicturePair}
+use Rattle.smoothing.specs.Checks.{pictureChecks}
+use Rattle.smoothing.specs.Runs.{runChecks, isEven, stepsInFirst, stepsInSecond, Result, runWith, runOf}
+use Rattle.smoothing.specs.Shown.{shownOf}
+use Rattle.smoothing.proofs.Runs.{kernelCheck, fills-pair, kernel-sound}
 
 -- what the reader is shown after a run
 abbrev pub shownAfter : Shape → ℕ → ℕ → ℕ → List ℕ → List ℕ → List ℕ
-shownAfter shape k w h first second = shownOf k w h (runOf shape k w h first second .first) (runOf shape k w h first second .second)
+shownAfter shape k w h first second = shownOf shape k w h (runOf shape k w h first second .first) (runOf shape k w h first second .second)
 
--- ---- the reader
-module _ (k w h : ℕ) (first second : List ℕ) where
-  -- of two pictures of w × h pixels the part that is shown is the whole one
-  pub shows-whole : firstRefusal (shownChecks k w h (length first) (length second)) ≡ Accepted
-      → shownOf k w h first second ≡ cond (isEven k) first second
-  unfolding shownOf
-  shows-whole e =
-      let full = filled k w h (length first) (length second) e in
-      rw e (go (isEven k) (le-of-eq (full .source)) (le-of-eq (full .target)))
-    where
-      go : (even : Bool) → length first ≤ w * h → length second ≤ w * h → take (w * h) (cond even first second) ≡ cond even first second
-      go true f s = take-all (w * h) first f
-      go false f s = take-all (w * h) second s
-
-  -- an empty part is shown exactly where refusal 5, 6 or 9 applies
-  pub shows-none : (shownOf k w h first second ≡ []) ↔ (firstRefusal (shownChecks k w h (length first) (length second)) ≡ Accepted → ⊥)
-  unfolding shownOf
-  shows-none = (only, always (firstRefusal (shownChecks k w h (length first) (length second))) refl)
-    where
-      some : (even : Bool) → Filled (length first) (length second) w h → 1 ≤ length (cond even first second)
-      some true full = rw (full .source) (mul-pos (full .wide) (full .high))
-      some false full = rw (full .target) (mul-pos (full .wide) (full .high))
-
-      only : shownOf k w h first second ≡ [] → firstRefusal (shownChecks k w h (length first) (length second)) ≡ Accepted → ⊥
-      only none e =
-          let l = some (isEven k) (filled k w h (length first) (length second) e) in
-          let z = ap length (sym (shows-whole e) ∙ none) in
-          omega arith
-
-      always : (outcome : Outcome) → firstRefusal (shownChecks k w h (length first) (length second)) ≡ outcome
-          → (firstRefusal (shownChecks k w h (length first) (length second)) ≡ Accepted → ⊥) → shownOf k w h first second ≡ []
-      always Accepted e none = absurd (none e)
-      always (Refused code) e none = rw e
-
--- ---- the run
 module _ (shape : Shape) (k w h : ℕ) (first second : List ℕ) where
+  -- ---- the run
   -- it answers the first refusal that applies ..
   pub answers : runOf shape k w h first second .outcome ≡ firstRefusal (runChecks shape k w h (length first) (length second))
   unfolding runOf
@@ -84,28 +54,103 @@ module _ (shape : Shape) (k w h : ℕ) (first second : List ℕ) where
   unfolding runOf
   changes-nothing code e = rw e
 
+  -- the checks that come before that for a kernel
+  abbrev pub earlierChecks : List Check
+  earlierChecks = shapeChecks shape ++ pictureChecks k w h (length first) (length second)
+
+  -- REFUSAL 11 IS ANSWERED EXACTLY WHERE NO NINE WEIGHTS EXIST, in the wide sense, for the shape's numbers: where refusals 3, 4,
+  -- 5, 6 and 9, which come before it, do not apply
+  pub refused-eleven : firstRefusal earlierChecks ≡ Accepted
+      → (runOf shape k w h first second .outcome ≡ Refused NoKernel) ↔ (Weights (covarianceXX shape) (covarianceXY shape) (covarianceYY shape) (unitsOf k) → ⊥)
+  refused-eleven e =
+      let core = shape-refused-exactly shape k (all-hold earlierChecks e .1 .1 .0) in
+      (λ r. core .0 (only (shapeHasKernel shape k) refl r), λ none. test (core .1 none))
+    where
+      -- the test for a kernel decides
+      test : {t : Bool} → shapeHasKernel shape k ≡ t → runOf shape k w h first second .outcome ≡ unless t (Refused NoKernel) Accepted
+      test f = answers ∙ in-turn earlierChecks (kernelCheck shape k) ∙ rw (e, f)
+
+      only : (t : Bool) → shapeHasKernel shape k ≡ t → runOf shape k w h first second .outcome ≡ Refused NoKernel → t ≡ false
+      only true f r = absurd (refused-not-accepted (sym r ∙ test f))
+      only false f r = refl
+
+  -- ---- the reader
+  abbrev checks : Outcome
+  checks = firstRefusal (runChecks shape k w h (length first) (length second))
+
+  -- of two pictures of w × h pixels the part that is shown is the whole one
+  pub shows-whole : firstRefusal (runChecks shape k w h (length first) (length second)) ≡ Accepted
+      → shownOf shape k w h first second ≡ cond (isEven k) first second
+  unfolding shownOf
+  shows-whole e =
+      let full = fills-pair shape k w h (length first) (length second) e .0 in
+      rw e (go (isEven k) (le-of-eq (full .source)) (le-of-eq (full .target)))
+    where
+      go : (even : Bool) → length first ≤ w * h → length second ≤ w * h → take (w * h) (cond even first second) ≡ cond even first second
+      go true f s = take-all (w * h) first f
+      go false f s = take-all (w * h) second s
+
+  -- AN EMPTY PART IS SHOWN EXACTLY WHERE THE RUN WITH THE SAME ARGUMENTS IS REFUSED
+  pub shows-none : (shownOf shape k w h first second ≡ []) ↔ (runOf shape k w h first second .outcome ≡ Accepted → ⊥)
+  unfolding shownOf
+  shows-none = (λ none e. only none (sym answers ∙ e), λ refused. always checks refl (λ e. refused (answers ∙ e)))
+    where
+      some : (even : Bool) → PicturePair (length first) (length second) w h → 1 ≤ length (cond even first second)
+      some true full = rw (full .source) (mul-pos (full .wide) (full .high))
+      some false full = rw (full .target) (mul-pos (full .wide) (full .high))
+
+      only : shownOf shape k w h first second ≡ [] → checks ≡ Accepted → ⊥
+      only none e =
+          let l = some (isEven k) (fills-pair shape k w h (length first) (length second) e .0) in
+          let z = ap length (sym (shows-whole e) ∙ none) in
+          omega arith
+
+      always : (outcome : Outcome) → checks ≡ outcome → (checks ≡ Accepted → ⊥) → shownOf shape k w h first second ≡ []
+      always Accepted e none = absurd (none e)
+      always (Refused code) e none = rw e
+
+-- ---- the reader after the run
+module _ (shape : Shape) (k w h : ℕ) (first second : List ℕ) where
+  abbrev ran : Outcome → Result
+  ran outcome = runWith outcome (kernelOfShape shape k) k w h first second
+
+  -- a run changes no length ..
+  pub keeps-lengths : (length (runOf shape k w h first second .first) ≡ length first) × (length (runOf shape k w h first second .second) ≡ length second)
+  unfolding runOf
+  keeps-lengths = go (firstRefusal (runChecks shape k w h (length first) (length second))) refl
+    where
+      go : (outcome : Outcome) → firstRefusal (runChecks shape k w h (length first) (length second)) ≡ outcome
+          → (length (ran outcome .first) ≡ length first) × (length (ran outcome .second) ≡ length second)
+      go Accepted e =
+          let full = fills-pair shape k w h (length first) (length second) e .0 in
+          let left = length-steps (kernelOfShape shape k) w h first (full .source) in
+          (left (stepsInFirst k) ∙ sym (full .source), left (stepsInSecond k) ∙ sym (full .target))
+      go (Refused code) e = (refl, refl)
+
+  -- .. so the same run is refused with what it left exactly where it was refused
+  pub same-checks : firstRefusal (runChecks shape k w h (length (runOf shape k w h first second .first)) (length (runOf shape k w h first second .second)))
+      ≡ firstRefusal (runChecks shape k w h (length first) (length second))
+  same-checks = rw (keeps-lengths .0, keeps-lengths .1)
+
+  -- AFTER A REFUSED RUN NOTHING IS SHOWN, AND AFTER NO OTHER
+  pub shows-none-after : (shownAfter shape k w h first second ≡ []) ↔ (runOf shape k w h first second .outcome ≡ Accepted → ⊥)
+  shows-none-after =
+      let left = runOf shape k w h first second in
+      let same : runOf shape k w h (left .first) (left .second) .outcome ≡ left .outcome =
+      answers shape k w h (left .first) (left .second) ∙ same-checks ∙ sym (answers shape k w h first second) in
+      rw same at (shows-none shape k w h (left .first) (left .second))
+
   module _ (accepted : firstRefusal (runChecks shape k w h (length first) (length second)) ≡ Accepted) where
     -- what the second picture held counts for nothing
     pub second-unread : (other : List ℕ) → length other ≡ length second → runOf shape k w h first other ≡ runOf shape k w h first second
     unfolding runOf
     second-unread other e = rw (e, accepted)
 
-    fills : length first ≡ w * h
-    fills = eqb-true (length first) (w * h) (all-hold (runChecks shape k w h (length first) (length second)) accepted .1 .1 .1 .1 .0)
-
-    -- both pictures still have w × h pixels, so the reader is refused nothing
-    still-fine : firstRefusal (shownChecks k w h (length (runOf shape k w h first second .first)) (length (runOf shape k w h first second .second))) ≡ Accepted
-    unfolding runOf
-    still-fine =
-        let holds = all-hold (runChecks shape k w h (length first) (length second)) accepted in
-        let left = length-steps (kernelOfShape shape k) w h first fills in
-        rw (accepted, holds .1 .1 .0, holds .1 .1 .1 .0, eq-eqb _ (w * h) (left (stepsInFirst k)), eq-eqb _ (w * h) (left (stepsInSecond k)))
-
-    -- THE READER IS SHOWN STEP k
+    -- AFTER AN ACCEPTED RUN THE READER IS SHOWN STEP k
     pub shows-last : shownAfter shape k w h first second ≡ stepsOf (kernelOfShape shape k) w h k first
     unfolding runOf
     shows-last =
-        shows-whole k w h (runOf shape k w h first second .first) (runOf shape k w h first second .second) still-fine
+        shows-whole shape k w h (runOf shape k w h first second .first) (runOf shape k w h first second .second) (same-checks ∙ accepted)
         ∙ rw accepted (go (isEven k))
       where
         go : (even : Bool)
@@ -119,4 +164,5 @@ module _ (shape : Shape) (k w h : ℕ) (first second : List ℕ) where
     pub shows-near : Entrywise (Distance (sumOf k) k) (shownAfter shape k w h first second) (exactOf (kernelOfShape shape k) w h k first)
     shows-near =
         let sound = kernel-sound shape k w h (length first) (length second) accepted in
-        rw (shows-last, ← sound .sum) (distance (kernelOfShape shape k) k sound w h first fills k)
+        let full = fills-pair shape k w h (length first) (length second) accepted .0 in
+        rw (shows-last, ← sound .sum) (distance (kernelOfShape shape k) k sound w h first (full .source) k)

@@ -6,9 +6,12 @@ ghost use lib.ListN.{length};
 ghost use Rattle.limits.specs.Errors.{firstRefusal};
 ghost use Rattle.averaging.specs.Steps.{stepOf, stepsOf};
 ghost use Rattle.row_core.specs.Prepared.{StepKernel};
-ghost use Rattle.stepping.specs.Step.{Filled};
-ghost use Rattle.smoothing.specs.Runs.{stepsInFirst, stepsInSecond, runWith, runOf};
-ghost use Rattle.smoothing.specs.Shown.{shownChecks, shownOf};
+ghost use Rattle.stepping.specs.Step.{PicturePair};
+ghost use Rattle.kernel.specs.Answer.{answerWith};
+ghost use Rattle.covariance.specs.Shapes.{kernelOfShape};
+ghost use Rattle.smoothing.specs.Checks.{pictureChecks};
+ghost use Rattle.smoothing.specs.Runs.{runChecks, stepsInFirst, stepsInSecond, runWith, runOf};
+ghost use Rattle.smoothing.specs.Shown.{shownOf};
 use covariance::Covariance;
 use covariance::Shape;
 use kernel::Kernel;
@@ -25,7 +28,7 @@ fn there_and_back(
     kernel: Kernel,
 )
     requires { ⌜ StepKernel kernel ⌝ }
-    requires { ⌜ Filled (length (now first)) (length (now second)) width height ⌝ }
+    requires { ⌜ PicturePair (length (now first)) (length (now second)) width height ⌝ }
     ensures { λ _. ⌜ now (second .exit) ≡ stepOf kernel width height (now (first .entry)) ⌝ }
     ensures { λ _. ⌜ now (first .exit) ≡ stepOf kernel width height (now (second .exit)) ⌝ }
 {
@@ -43,7 +46,7 @@ fn run_steps(
     kernel: Kernel,
 )
     requires { ⌜ StepKernel kernel ⌝ }
-    requires { ⌜ Filled (length (now first)) (length (now second)) width height ⌝ }
+    requires { ⌜ PicturePair (length (now first)) (length (now second)) width height ⌝ }
     requires { ⌜ 1 ≤ steps ⌝ }
     ensures { λ _. ⌜ now (first .exit) ≡ stepsOf kernel width height (stepsInFirst steps) (now (first .entry)) ⌝ }
     ensures { λ _. ⌜ now (second .exit) ≡ stepsOf kernel width height (stepsInSecond steps) (now (first .entry)) ⌝ }
@@ -66,8 +69,8 @@ fn run_with(
     second: &mut [u16],
 ) -> Outcome
     requires { ⌜ (answer .outcome ≡ Outcome.Accepted → StepKernel (answer .kernel)) ⌝ }
-    requires { ⌜ Filled (length (now first)) (length (now second)) width height ⌝ }
-    requires { ⌜ 1 ≤ steps ⌝ }
+    requires { ⌜ (answer .outcome ≡ Outcome.Accepted → PicturePair (length (now first)) (length (now second)) width height) ⌝ }
+    requires { ⌜ (answer .outcome ≡ Outcome.Accepted → 1 ≤ steps) ⌝ }
     ensures { λ r. ⌜ r ≡ runWith (answer .outcome) (answer .kernel) steps width height (now (first .entry)) (now (second .entry)) .outcome ⌝ }
     ensures { λ _. ⌜ now (first .exit) ≡ runWith (answer .outcome) (answer .kernel) steps width height (now (first .entry)) (now (second .entry)) .first ⌝ }
     ensures { λ _. ⌜ now (second .exit) ≡ runWith (answer .outcome) (answer .kernel) steps width height (now (first .entry)) (now (second .entry)) .second ⌝ }
@@ -92,7 +95,7 @@ fn run_with(
 
 // Refusals 5, 6 and 9, the first that applies, of two lent pictures of so many pixels.
 fn checked(steps: u32, width: u32, height: u32, first: usize, second: usize) -> Outcome
-    ensures { λ r. ⌜ r ≡ firstRefusal (shownChecks steps width height first second) ⌝ }
+    ensures { λ r. ⌜ r ≡ firstRefusal (pictureChecks steps width height first second) ⌝ }
 {
     let steps_fine = limits::steps_in_range(steps);
     let sides_fine = limits::sides_in_range(width, height);
@@ -113,6 +116,28 @@ fn checked(steps: u32, width: u32, height: u32, first: usize, second: usize) -> 
     Outcome::Accepted
 }
 
+// The kernel of a run with two pictures of so many pixels, or the first of refusals 3, 4, 5, 6, 9 and 11 that applies.
+fn run_kernel(
+    shape: Shape,
+    steps: u32,
+    width: u32,
+    height: u32,
+    first: usize,
+    second: usize,
+) -> KernelAnswer
+    ensures { λ r. ⌜ r ≡ answerWith (firstRefusal (runChecks shape steps width height first second)) (kernelOfShape shape steps) ⌝ }
+{
+    match covariance::covariance_of(shape) {
+        Covariance::Entries(xx, xy, yy) => {
+            match checked(steps, width, height, first, second) {
+                Outcome::Accepted => kernel::kernel_of(xx, xy, yy, steps),
+                Outcome::Refused(code) => kernel::refused(code),
+            }
+        }
+        Covariance::Refused(code) => kernel::refused(code),
+    }
+}
+
 // Document 01's run: the first picture is smoothed in so many steps with the kernel of a shape, or refusal 3, 4, 5, 6, 9 or 11.
 // The last step ends in the first picture where their number is even, else in the second; the other holds the step before it.
 pub fn run(
@@ -127,31 +152,25 @@ pub fn run(
     ensures first { λ _. ⌜ now (first .exit) ≡ runOf shape steps width height (now (first .entry)) (now (second .entry)) .first ⌝ }
     ensures second { λ _. ⌜ now (second .exit) ≡ runOf shape steps width height (now (first .entry)) (now (second .entry)) .second ⌝ }
 {
-    match covariance::covariance_of(shape) {
-        Covariance::Entries(xx, xy, yy) => {
-            match checked(steps, width, height, first.len(), second.len()) {
-                Outcome::Accepted => {
-                    let answer = kernel::kernel_of(xx, xy, yy, steps);
-                    run_with(answer, steps, width, height, first, second)
-                }
-                Outcome::Refused(code) => Outcome::Refused(code),
-            }
-        }
-        Covariance::Refused(code) => Outcome::Refused(code),
-    }
+    let answer = run_kernel(shape, steps, width, height, first.len(), second.len());
+    run_with(answer, steps, width, height, first, second)
 }
 
-// What the reader of a run is shown: the pixels of its last step, or an empty part where refusal 5, 6 or 9 applies.
+// What the reader of a run is shown: the pixels of its last step, or an empty part where the run with the same arguments is
+// refused. A run changes no length, so it is refused with the pictures that it left exactly where it was with those it found.
 pub fn shown<'a>(
+    shape: Shape,
     steps: u32,
     width: u32,
     height: u32,
     first: &'a [u16],
     second: &'a [u16],
 ) -> &'a [u16]
-    ensures { λ r. ⌜ now r ≡ shownOf steps width height (now (first .entry)) (now (second .entry)) ⌝ }
+    ensures { λ r. ⌜ now r ≡ shownOf shape steps width height (now (first .entry)) (now (second .entry)) ⌝ }
 {
-    match checked(steps, width, height, first.len(), second.len()) {
+    let checked_kernel = run_kernel(shape, steps, width, height, first.len(), second.len());
+    let outcome = checked_kernel.outcome;
+    match outcome {
         Outcome::Accepted => {
             let size = limits::area(width, height);
             if steps % 2 == 0 {

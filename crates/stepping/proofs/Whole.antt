@@ -12,7 +12,7 @@ use Rattle.kernel.specs.declared.Kernel.{Kernel}
 use Rattle.row_core.specs.Rows.{part, paddedOf, AllPixels}
 use Rattle.row_core.proofs.Pixels.{part-pixels, padded-pixels}
 use Rattle.row_core.proofs.Rows.{length-padded, row-inside, lineOf}
-use Rattle.stepping.specs.Buffers.{rowFrom, Inside}
+use Rattle.stepping.specs.Buffers.{rowFrom, WindowInside}
 use Rattle.stepping.specs.Whole.{lineAt, HoldsRows, Readable}
 use Rattle.stepping.specs.declared.Window.{Window}
 use Rattle.stepping.proofs.Buffers.{part-written, part-kept}
@@ -46,7 +46,7 @@ pub record Around (v : Window) (w h y : ℕ) : Type 0 where
 
 module _ (lines : List ℕ) (w h : ℕ) (v : Window) (y : ℕ) (low : y < h) (around : Around v w h y) where
   -- its lines lie inside, with pixels in them
-  pub around-inside : (n m i : ℕ) → Readable lines n w h → i + w ≤ m → Inside lines v m i w
+  pub around-inside : (n m i : ℕ) → Readable lines n w h → i + w ≤ m → WindowInside lines v m i w
   around-inside n m i r row =
       let above = line-inside w h (y - 1) (omega arith) in
       let below = line-inside w h (min (y + 1) (h - 1)) (omega arith) in

@@ -8,13 +8,13 @@ use lib.ListN.{length}
 use lib.Seq.{paste, length-paste}
 use Rattle.row_core.specs.Rows.{paddedOf, AllPixels, part}
 use Rattle.row_core.proofs.Rows.{length-part, length-padded}
-use Rattle.stepping.specs.Buffers.{Inside, Slots, Loaded}
+use Rattle.stepping.specs.Buffers.{WindowInside, Slots, Loaded}
 use Rattle.stepping.specs.declared.Window.{Window}
 use Rattle.stepping.proofs.Buffers.{part-written, part-kept, apart-sym}
 
 -- a window of lines of pixels, and a row that fits
 pub inside : (l : List ℕ) (v : Window) (m i w : ℕ) → v .above + (w + 2) ≤ length l → v .at + (w + 2) ≤ length l → v .below + (w + 2) ≤ length l
-    → AllPixels (part (v .above) (w + 2) l) → AllPixels (part (v .at) (w + 2) l) → AllPixels (part (v .below) (w + 2) l) → i + w ≤ m → Inside l v m i w
+    → AllPixels (part (v .above) (w + 2) l) → AllPixels (part (v .at) (w + 2) l) → AllPixels (part (v .below) (w + 2) l) → i + w ≤ m → WindowInside l v m i w
 inside l v m i w above at below pa pt pb row =
     record {
       above = above;

@@ -19,7 +19,7 @@ pub record Loadable (n m i j w : ℕ) : Type 0 where
   pub line : j + (w + 2) ≤ m
 
 -- the lines of a window lie in the line buffers, and a row of w pixels at i of m
-pub record Inside (lines : List ℕ) (v : Window) (m i w : ℕ) : Type 0 where
+pub record WindowInside (lines : List ℕ) (v : Window) (m i w : ℕ) : Type 0 where
   pub above : v .above + (w + 2) ≤ length lines
   pub at : v .at + (w + 2) ≤ length lines
   pub below : v .below + (w + 2) ≤ length lines

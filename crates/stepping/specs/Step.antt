@@ -4,7 +4,7 @@ use Prim.Native.Nat.{ℕ, _*_, _≤_}
 use Rattle.limits.specs.Limits.{longestSide}
 
 -- n pixels, and m pixels, are an image of width w and height h
-pub record Filled (n m w h : ℕ) : Type 0 where
+pub record PicturePair (n m w h : ℕ) : Type 0 where
   pub wide : 1 ≤ w
   pub high : 1 ≤ h
   pub narrow : w ≤ longestSide

@@ -10,10 +10,10 @@ ghost use lib.ListN.{length};
 ghost use lib.Seq.{paste};
 ghost use Rattle.limits.specs.Limits.{longestSide};
 ghost use Rattle.averaging.specs.Steps.{stepOf};
-ghost use Rattle.row_core.specs.Prepared.{StepKernel, kernelWith, Prepared};
+ghost use Rattle.row_core.specs.Prepared.{StepKernel, kernelOfCoefficients, Prepared};
 ghost use Rattle.row_core.specs.Rows.{part, paddedOf, rowOf};
-ghost use Rattle.stepping.specs.Step.{Filled};
-ghost use Rattle.stepping.specs.Buffers.{rowFrom, Loadable, Inside, Loaded, Turn};
+ghost use Rattle.stepping.specs.Step.{PicturePair};
+ghost use Rattle.stepping.specs.Buffers.{rowFrom, Loadable, WindowInside, Loaded, Turn};
 ghost use Rattle.stepping.specs.Whole.{Loads, HoldsRows, Readable};
 use kernel::Kernel;
 use row_core::Coefficients;
@@ -85,8 +85,8 @@ fn step_row(
     coefficients: Coefficients,
 )
     requires { ⌜ Prepared coefficients ⌝ }
-    requires { ⌜ Inside (now lines) window (length (now target)) row width ⌝ }
-    ensures { λ _. ⌜ now (target .exit) ≡ paste (now (target .entry)) row (rowFrom (kernelWith coefficients) width window (now (lines .entry))) width ⌝ }
+    requires { ⌜ WindowInside (now lines) window (length (now target)) row width ⌝ }
+    ensures { λ _. ⌜ now (target .exit) ≡ paste (now (target .entry)) row (rowFrom (kernelOfCoefficients coefficients) width window (now (lines .entry))) width ⌝ }
 {
     let size = width + 2;
     let above = window.above;
@@ -134,7 +134,7 @@ fn step_inner_row(
     requires { ⌜ Prepared coefficients ⌝ }
     requires { ⌜ Turn (length (now source)) (now lines) window (length (now target)) row width ⌝ }
     ensures { λ _. ⌜ now (lines .exit) ≡ paste (now (lines .entry)) (window .below) (paddedOf (part (row + width) width (now (source .entry)))) (width + 2) ⌝ }
-    ensures { λ _. ⌜ now (target .exit) ≡ paste (now (target .entry)) row (rowOf (kernelWith coefficients) width (part (window .above) (width + 2) (now (lines .entry))) (part (window .at) (width + 2) (now (lines .entry))) (paddedOf (part (row + width) width (now (source .entry))))) width ⌝ }
+    ensures { λ _. ⌜ now (target .exit) ≡ paste (now (target .entry)) row (rowOf (kernelOfCoefficients coefficients) width (part (window .above) (width + 2) (now (lines .entry))) (part (window .at) (width + 2) (now (lines .entry))) (paddedOf (part (row + width) width (now (source .entry))))) width ⌝ }
 {
     let next = row + width;
     let free = window.below;
@@ -152,9 +152,9 @@ fn step_through(
     coefficients: Coefficients,
 )
     requires { ⌜ Prepared coefficients ⌝ }
-    requires { ⌜ Filled (length (now source)) (length (now target)) width height ⌝ }
+    requires { ⌜ PicturePair (length (now source)) (length (now target)) width height ⌝ }
     requires { ⌜ 3 * (width + 2) ≤ length (now lines) ⌝ }
-    ensures { λ _. ⌜ now (target .exit) ≡ stepOf (kernelWith coefficients) width height (now (source .entry)) ⌝ }
+    ensures { λ _. ⌜ now (target .exit) ≡ stepOf (kernelOfCoefficients coefficients) width height (now (source .entry)) ⌝ }
 {
     let last = height - 1;
     let mut window = load_first(source, lines, width);
@@ -202,7 +202,7 @@ pub fn step_all(
 )
     requires { ⌜ Prepared coefficients ⌝ }
     requires { ⌜ Readable (now lines) (length (now target)) width height ⌝ }
-    ensures { λ _. ⌜ ((source : List ℕ) → length source ≡ width * height → HoldsRows (now (lines .entry)) width height source → now (target .exit) ≡ stepOf (kernelWith coefficients) width height source) ⌝ }
+    ensures { λ _. ⌜ ((source : List ℕ) → length source ≡ width * height → HoldsRows (now (lines .entry)) width height source → now (target .exit) ≡ stepOf (kernelOfCoefficients coefficients) width height source) ⌝ }
 {
     let last = height - 1;
     let size = width + 2;
@@ -232,9 +232,9 @@ fn step_whole(
     coefficients: Coefficients,
 )
     requires { ⌜ Prepared coefficients ⌝ }
-    requires { ⌜ Filled (length (now source)) (length (now target)) width height ⌝ }
+    requires { ⌜ PicturePair (length (now source)) (length (now target)) width height ⌝ }
     requires { ⌜ height * (width + 2) ≤ length (now lines) ⌝ }
-    ensures { λ _. ⌜ now (target .exit) ≡ stepOf (kernelWith coefficients) width height (now (source .entry)) ⌝ }
+    ensures { λ _. ⌜ now (target .exit) ≡ stepOf (kernelOfCoefficients coefficients) width height (now (source .entry)) ⌝ }
 {
     load_all(source, lines, width, height);
     step_all(lines, target, width, height, coefficients);
@@ -243,7 +243,7 @@ fn step_whole(
 // One step: the next image, whole. A small one is loaded whole, which is faster than row by row.
 pub fn step(source: &[u16], target: &mut [u16], width: usize, height: usize, kernel: Kernel)
     requires { ⌜ StepKernel kernel ⌝ }
-    requires { ⌜ Filled (length (now source)) (length (now target)) width height ⌝ }
+    requires { ⌜ PicturePair (length (now source)) (length (now target)) width height ⌝ }
     ensures { λ _. ⌜ now (target .exit) ≡ stepOf kernel width height (now (source .entry)) ⌝ }
 {
     let coefficients = row_core::coefficients_of(kernel);

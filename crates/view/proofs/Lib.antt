@@ -1,3 +1,2 @@
--- What the walks share, and worked cases.
+-- What the walks share.
 pub mod Walk
-pub mod Cases

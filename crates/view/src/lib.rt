@@ -1,5 +1,6 @@
-// A view of an image: lent pixels with their width and height kept together (document 01). Functions over the view are few
-// and thin: each takes it apart and calls `image::pixel_at`. Every other caller uses `read_pixel`.
+// A view of an image: lent pixels with their width and height kept together (document 01: "in one record that refers to them").
+// Functions over the view are few and thin: `read` takes it apart and calls the covered core, `image::pixel_at`. Crates above
+// call `read_pixel`, whose parameters are plain, so that they have no view of their own.
 ghost use mathlib.Core.Path.{_≡_};
 ghost use Rattle.image.specs.Reading.{readingOf};
 use image::Reading;

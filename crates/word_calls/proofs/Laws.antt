@@ -9,12 +9,13 @@ use Rattle.machine.specs.declared.Service.{Service}
 use Rattle.machine.specs.declared.Answer.{Answer}
 use Rattle.machine.specs.declared.Answer.the-variants.{Job, Idle, Refused}
 use Rattle.machine.specs.Slots.{slotCount}
+use Rattle.machine.specs.Answers.{answerNumber}
 use Rattle.machine.specs.Calls.{Result, freeCountOf}
 use Rattle.service.specs.Called.{calledOf, afterTurn}
 use Rattle.service.specs.declared.Called.{Called}
 use Rattle.record_words.specs.Words.{fieldsFit, serviceOf}
 use Rattle.record_words.proofs.Turns.{turn-written}
-use Rattle.word_calls.specs.Exported.{codeOf, numberAfter, wordsAfter, wordsAfterTurn, throughWords, Leaves, countWords}
+use Rattle.word_calls.specs.Exported.{numberAfter, wordsAfter, wordsAfterTurn, throughWords, Leaves, countWords}
 
 -- ---- the free count through words
 pub count-unfit : (words : List ℕ) → fieldsFit words ≡ false → countWords words ≡ FreeCount.Refused RecordOutOfOrder
@@ -44,13 +45,13 @@ module _ (call : Service → Result) (words : List ℕ) (old : ℕ) (store lent 
   -- where they hold the record r
   module _ (fit : fieldsFit words ≡ true) (r : Service) (held : r ≡ serviceOf words) where
     pub fit-leaves : (called : Called) (code : ℕ) (after : List ℕ) (number : ℕ) → called ≡ calledOf (call r)
-        → (code ≡ codeOf (called .answer)) × ((after ≡ wordsAfter (called .answer) (called .service) words) × (number ≡ numberAfter (called .answer) old))
+        → (code ≡ answerNumber (called .answer)) × ((after ≡ wordsAfter (called .answer) (called .service) words) × (number ≡ numberAfter (called .answer) old))
         → Leaves (throughWords call words old store lent) code after number
     unfolding throughWords
     fit-leaves called code after number e h =
         let is : called ≡ calledOf (call (serviceOf words)) = rw held at e in
         record {
-          code-is = rw fit (h .0 ∙ ap (λ (x : Called). codeOf (x .answer)) is);
+          code-is = rw fit (h .0 ∙ ap (λ (x : Called). answerNumber (x .answer)) is);
           words-are = rw fit (h .1 .0 ∙ ap (λ (x : Called). wordsAfter (x .answer) (x .service) words) is);
           number-is = rw fit (h .1 .1 ∙ ap (λ (x : Called). numberAfter (x .answer) old) is);
         }

@@ -1,4 +1,8 @@
--- The laws that the proofs share, and the words after a call.
+-- The laws that the proofs share, demand 3 of lists of exported calls, and worked calls.
 pub mod Laws
 pub mod Held
+pub mod Fields
+pub mod Seen
 pub mod Lists
+pub mod Table
+pub mod Cases

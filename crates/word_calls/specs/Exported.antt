@@ -2,7 +2,7 @@
 -- the state machine's call is made, and its record is encoded again. Definitions only.
 use mathlib.Core.Path.{_≡_}
 use mathlib.Core.Bool.{Bool, true, false, cond}
-use mathlib.Core.List.{List, [], _∷_}
+use mathlib.Core.List.{List, []}
 use Prim.Native.Nat.{ℕ}
 use lib.Dec.{eqb}
 use lib.ListN.{length}
@@ -14,15 +14,10 @@ use Rattle.machine.specs.declared.Answer.{Answer}
 use Rattle.machine.specs.declared.Answer.the-variants.{Job, Idle, Refused}
 use Rattle.machine.specs.declared.FreeCount.{FreeCount}
 use Rattle.machine.specs.declared.FreeCount.the-variants as F
+use Rattle.machine.specs.Answers.{answerNumber}
 use Rattle.machine.specs.Slots.{opening}
-use Rattle.machine.specs.Calls.{Call, submit, tick, collect, withdraw, Result, submitOf, tickOf, collectOf, withdrawOf, freeCountOf}
+use Rattle.machine.specs.Calls.{Result, submitOf, tickOf, collectOf, withdrawOf, freeCountOf}
 use Rattle.record_words.specs.Words.{wordCount, fieldsFit, serviceOf, withService, withTurn}
-
--- 0, or the number of the refusal
-abbrev pub codeOf : Answer → ℕ
-codeOf (Job n) = 0
-codeOf Idle = 0
-codeOf (Refused code) = numberOf code
 
 -- the job number, 0 for idle; a refusal leaves what stood there
 abbrev pub numberAfter : Answer → ℕ → ℕ
@@ -52,7 +47,7 @@ pub record Exported : Type 0 where
 abbrev pub exportedOf : List ℕ → ℕ → Result → Exported
 exportedOf words old r =
     record {
-      code = codeOf (r .answer);
+      code = answerNumber (r .answer);
       words = wordsAfter (r .answer) (r .service) words;
       number = numberAfter (r .answer) old;
       store = r .store;
@@ -97,51 +92,9 @@ abbrev pub openingWords : List ℕ → List ℕ
 openingWords words = cond (eqb (length words) wordCount) (withService opening words) words
 
 -- ---- the free count
-abbrev pub countCode : FreeCount → ℕ
-countCode (F.Buffers n) = 0
-countCode (F.Refused code) = numberOf code
-
-abbrev pub countAfter : FreeCount → ℕ → ℕ
-countAfter (F.Buffers n) old = n
-countAfter (F.Refused code) old = old
-
 abbrev pub countIfFit : Bool → FreeCount → FreeCount
 countIfFit true count = count
 countIfFit false count = F.Refused RecordOutOfOrder
 
 unfoldable pub countWords : List ℕ → FreeCount
 countWords words = countIfFit (fieldsFit words) (freeCountOf (serviceOf words))
-
--- ---- lists of calls
--- a call of the state machine as its exported call makes it; a withdraw is not lent the store, which stays
-abbrev pub exportedCall : Call → List ℕ → ℕ → List ℕ → Exported
-exportedCall (submit shape k w h pixels) words old store = submitWords words old store shape k w h pixels
-exportedCall tick words old store = tickWords words old store
-exportedCall (collect job lent) words old store = collectWords words old store job lent
-exportedCall (withdraw job) words old store =
-    record {
-      code = withdrawWords words old job .code;
-      words = withdrawWords words old job .words;
-      number = withdrawWords words old job .number;
-      store = store;
-      lent = [];
-    }
-
--- what a caller keeps from one call to the next: the words, the number that is lent to every call, and the store
-pub record Kept : Type 0 where
-  pub words : List ℕ
-  pub number : ℕ
-  pub store : List ℕ
-
-abbrev pub keptAfter : Kept → Call → Kept
-keptAfter k c =
-    record {
-      words = exportedCall c (k .words) (k .number) (k .store) .words;
-      number = exportedCall c (k .words) (k .number) (k .store) .number;
-      store = exportedCall c (k .words) (k .number) (k .store) .store;
-    }
-
--- after a list of calls
-unfoldable pub keptThrough : Kept → List Call → Kept
-keptThrough k [] = k
-keptThrough k (c ∷ cs) = keptThrough (keptAfter k c) cs

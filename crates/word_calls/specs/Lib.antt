@@ -1,2 +1,3 @@
--- What a call through words leaves behind.
+-- What a call through words leaves behind, and demand 3 of lists of such calls.
 pub mod Exported
+pub mod Lists

@@ -4,9 +4,11 @@
 ghost use mathlib.Core.Path.{_≡_};
 ghost use Prim.Native.Nat.{_<_};
 ghost use lib.ListN.{length};
+ghost use Rattle.limits.specs.Errors.{valueOr};
+ghost use Rattle.machine.specs.Answers.{answerNumber, countNumber, countValues};
 ghost use Rattle.machine.specs.Slots.{slotCount};
 ghost use Rattle.record_words.specs.Words.{wordCount};
-ghost use Rattle.word_calls.specs.Exported.{codeOf, numberAfter, wordsAfter, wordsAfterTurn, Leaves, openingCode, openingWords, submitWords, tickWords, collectWords, withdrawWords, countCode, countAfter, countWords};
+ghost use Rattle.word_calls.specs.Exported.{numberAfter, wordsAfter, wordsAfterTurn, Leaves, openingCode, openingWords, submitWords, tickWords, collectWords, withdrawWords, countWords};
 use covariance::Shape;
 use machine::Answer;
 use machine::FreeCount;
@@ -21,7 +23,7 @@ const WRONG_LENGTH: u32 = 9;
 // What a call answered, handed out: the words and the number are written where it was not refused.
 fn hand_out(words: &mut [u64], number: &mut u64, called: Called) -> u32
     requires { ⌜ length (now words) ≡ wordCount ⌝ }
-    ensures { λ r. ⌜ r ≡ codeOf (called .answer) ⌝ }
+    ensures { λ r. ⌜ r ≡ answerNumber (called .answer) ⌝ }
     ensures { λ _. ⌜ now (words .exit) ≡ wordsAfter (called .answer) (called .service) (now (words .entry)) ⌝ }
     ensures { λ _. ⌜ now (number .exit) ≡ numberAfter (called .answer) (now (number .entry)) ⌝ }
 {
@@ -43,7 +45,7 @@ fn hand_out(words: &mut [u64], number: &mut u64, called: Called) -> u32
 // What a tick answered, handed out: the two words that it changes, and the number of the job that was served.
 fn hand_out_turn(words: &mut [u64], served: &mut u64, turn: Turn) -> u32
     requires { ⌜ (length (now words) ≡ wordCount) × (turn .place < slotCount) ⌝ }
-    ensures { λ r. ⌜ r ≡ codeOf (turn .answer) ⌝ }
+    ensures { λ r. ⌜ r ≡ answerNumber (turn .answer) ⌝ }
     ensures { λ _. ⌜ now (words .exit) ≡ wordsAfterTurn (turn .answer) (turn .place) (turn .left) (now (words .entry)) ⌝ }
     ensures { λ _. ⌜ now (served .exit) ≡ numberAfter (turn .answer) (now (served .entry)) ⌝ }
 {
@@ -143,8 +145,8 @@ pub fn withdraw(words: &mut [u64], job: u64, number: &mut u64) -> u32
 
 // Writes the number of free buffers.
 pub fn free_count(words: &[u64], count: &mut u32) -> u32
-    ensures { λ r. ⌜ r ≡ countCode (countWords (now (words .entry))) ⌝ }
-    ensures { λ _. ⌜ now (count .exit) ≡ countAfter (countWords (now (words .entry))) (now (count .entry)) ⌝ }
+    ensures { λ r. ⌜ r ≡ countNumber (countWords (now (words .entry))) ⌝ }
+    ensures { λ _. ⌜ now (count .exit) ≡ valueOr (countValues (countWords (now (words .entry)))) (now (count .entry)) ⌝ }
 {
     if !record_words::fields_fit(words) {
         return RECORD_OUT_OF_ORDER;

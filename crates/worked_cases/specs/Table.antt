@@ -1,6 +1,7 @@
 -- Document 01, "Pictures worked through", as one table: each row has what goes in and what document 01 says comes out.
 -- Definitions only.
-use Prim.Native.Nat.{ℕ}
+use Prim.Native.Nat.{ℕ, _*_}
+use Prim.Native.String.{String}
 use mathlib.Core.List.{List, [], _∷_}
 use lib.ListN.{replicate}
 use lib.IntN.{ℤ, pos, negℤ, natAbs}
@@ -9,12 +10,17 @@ use Rattle.limits.specs.declared.Outcome.{Outcome}
 use Rattle.limits.specs.declared.Outcome.the-variants.{Accepted, Refused}
 use Rattle.kernel.specs.Molecule.{unitsOf, freeNumber}
 use Rattle.kernel.specs.declared.KernelAnswer.{KernelAnswer}
-use Rattle.kernel.specs.Answer.{kernelAnswer}
-use Rattle.averaging.specs.Steps.{stepsOf}
+use Rattle.covariance.specs.declared.Shape.{Shape}
+use Rattle.covariance.specs.declared.Shape.the-variants.{Matrix}
+use Rattle.covariance.specs.Answer.{shapeKernelAnswer}
+use Rattle.smoothing.specs.Runs.{Result, runOf}
+use Rattle.smoothing.specs.Shown.{shownOf}
+use Rattle.job_printer.specs.Text.{bytes}
+use Rattle.job_text.specs.Answer.{answerText}
 
--- a covariance, a step count and a picture; then the refusal's number (0: accepted), the free number, the nine weights and the
--- picture after the steps. A refused case has no free number, no weights and no picture: they stand as 0 and as the empty list. A
--- case that document 01 gives without pixels has a picture of no pixels.
+-- What goes in: a covariance, a step count and a picture; and the same as the text of a job. What comes out: the refusal's number
+-- (0: accepted), the free number, the nine weights and their sum, what a run leaves in its two pictures and shows of them, and
+-- what the bench program prints for the text. A refused case has no free number, no weights and no sum: they stand as 0.
 pub record Case : Type 0 where
   pub xx : ℤ
   pub xy : ℤ
@@ -23,88 +29,143 @@ pub record Case : Type 0 where
   pub width : ℕ
   pub height : ℕ
   pub pixels : List ℕ
+  pub text : String
   pub answer : ℕ
   pub free : ℕ
+  pub sum : ℕ
   pub weights : List ℕ
-  pub smoothed : List ℕ
-
-abbrev pub smooths : ℤ → ℤ → ℤ → ℕ → ℕ → List ℕ → ℕ → ℕ → List ℕ → List ℕ → Case
-smooths xx xy yy k free weights w h pixels smoothed =
-    record {
-      xx = xx;
-      xy = xy;
-      yy = yy;
-      steps = k;
-      width = w;
-      height = h;
-      pixels = pixels;
-      answer = 0;
-      free = free;
-      weights = weights;
-      smoothed = smoothed;
-    }
-
-abbrev pub accepted : ℤ → ℤ → ℤ → ℕ → ℕ → List ℕ → Case
-accepted xx xy yy k free weights = smooths xx xy yy k free weights 0 0 [] []
-
-abbrev pub refused : ℤ → ℤ → ℤ → ℕ → ℕ → Case
-refused xx xy yy k answer =
-    record {
-      xx = xx;
-      xy = xy;
-      yy = yy;
-      steps = k;
-      width = 0;
-      height = 0;
-      pixels = [];
-      answer = answer;
-      free = 0;
-      weights = replicate 9 0;
-      smoothed = [];
-    }
+  pub first : List ℕ
+  pub second : List ℕ
+  pub shown : List ℕ
+  pub printed : List ℕ
 
 abbrev pub minus : ℕ → ℤ
 minus n = negℤ (pos n)
 
+-- what the second picture of a run holds before it: so many nines
+abbrev pub nines : ℕ → ℕ → List ℕ
+nines w h = replicate (w * h) 9
+
+-- one step from the first picture to the second
+abbrev pub smooths : ℤ → ℤ → ℤ → ℕ → ℕ → List ℕ → ℕ → ℕ → List ℕ → List ℕ → String → String → Case
+smooths xx xy yy free sum weights w h pixels smoothed text printed =
+    record {
+      xx = xx;
+      xy = xy;
+      yy = yy;
+      steps = 1;
+      width = w;
+      height = h;
+      pixels = pixels;
+      text = text;
+      answer = 0;
+      free = free;
+      sum = sum;
+      weights = weights;
+      first = pixels;
+      second = smoothed;
+      shown = smoothed;
+      printed = bytes printed;
+    }
+
+-- A case that document 01 gives without pixels has a picture of one pixel, 7, which every kernel leaves as it is: outside the
+-- picture the nearest pixel is used, and that is always this one.
+abbrev pub accepted : ℤ → ℤ → ℤ → ℕ → ℕ → ℕ → List ℕ → String → String → Case
+accepted xx xy yy k free sum weights text printed =
+    record {
+      xx = xx;
+      xy = xy;
+      yy = yy;
+      steps = k;
+      width = 1;
+      height = 1;
+      pixels = 7 ∷ [];
+      text = text;
+      answer = 0;
+      free = free;
+      sum = sum;
+      weights = weights;
+      first = 7 ∷ [];
+      second = 7 ∷ [];
+      shown = 7 ∷ [];
+      printed = bytes printed;
+    }
+
+-- and where it is refused, both pictures keep their contents and nothing is shown
+abbrev pub refused : ℤ → ℤ → ℤ → ℕ → ℕ → String → String → Case
+refused xx xy yy k answer text printed =
+    record {
+      xx = xx;
+      xy = xy;
+      yy = yy;
+      steps = k;
+      width = 1;
+      height = 1;
+      pixels = 7 ∷ [];
+      text = text;
+      answer = answer;
+      free = 0;
+      sum = 0;
+      weights = replicate 9 0;
+      first = 7 ∷ [];
+      second = nines 1 1;
+      shown = [];
+      printed = bytes printed;
+    }
+
+-- The numbers of a K line are the sum and the weights before it, divided by hand: in a by 4096, in b by 16384, in c by 4096, in e
+-- by 1, in f and k by 16, in i by 524288, in j by 8192.
 abbrev pub table : List Case
 table =
-    -- a. The listing: its kernel line divides these by 4096
-    smooths (pos 2048) (pos 0) (pos 2048) 1 0 (0 ∷ 4096 ∷ 0 ∷ 4096 ∷ 0 ∷ 4096 ∷ 0 ∷ 4096 ∷ 0 ∷ []) 3 3
+    -- a. The listing
+    smooths (pos 2048) (pos 0) (pos 2048) 0 16384 (0 ∷ 4096 ∷ 0 ∷ 4096 ∷ 0 ∷ 4096 ∷ 0 ∷ 4096 ∷ 0 ∷ []) 3 3
     (0 ∷ 0 ∷ 0 ∷ 0 ∷ 1600 ∷ 0 ∷ 0 ∷ 0 ∷ 0 ∷ []) (0 ∷ 400 ∷ 0 ∷ 400 ∷ 0 ∷ 400 ∷ 0 ∷ 400 ∷ 0 ∷ [])
+    "J\t2048\t0\t2048\t1\t3\t3\n0\t0\t0\n0\t1600\t0\n0\t0\t0\n"
+    "K\t4\t0\t1\t0\t1\t0\t1\t0\t1\t0\nP\t3\t3\n0\t400\t0\n400\t0\t400\n0\t400\t0\n"
     -- b. "Matrix 0, 0, 0, k 1: centre only"
-    ∷ accepted (pos 0) (pos 0) (pos 0) 1 0 (0 ∷ 0 ∷ 0 ∷ 0 ∷ 16384 ∷ 0 ∷ 0 ∷ 0 ∷ 0 ∷ [])
+    ∷ accepted (pos 0) (pos 0) (pos 0) 1 0 16384 (0 ∷ 0 ∷ 0 ∷ 0 ∷ 16384 ∷ 0 ∷ 0 ∷ 0 ∷ 0 ∷ [])
+    "J\t0\t0\t0\t1\t1\t1\n7\n" "K\t1\t0\t0\t0\t0\t1\t0\t0\t0\t0\nP\t1\t1\n7\n"
     -- c. "4096, 0, 4096, k 1: f 4096, corners 4096, rest 0"
-    ∷ accepted (pos 4096) (pos 0) (pos 4096) 1 4096 (4096 ∷ 0 ∷ 4096 ∷ 0 ∷ 0 ∷ 0 ∷ 4096 ∷ 0 ∷ 4096 ∷ [])
+    ∷ accepted (pos 4096) (pos 0) (pos 4096) 1 4096 16384 (4096 ∷ 0 ∷ 4096 ∷ 0 ∷ 0 ∷ 0 ∷ 4096 ∷ 0 ∷ 4096 ∷ [])
+    "J\t4096\t0\t4096\t1\t1\t1\n7\n" "K\t4\t1\t0\t1\t0\t0\t0\t1\t0\t1\nP\t1\t1\n7\n"
     -- d. "4097, 0, 4096, k 1: 11"
-    ∷ refused (pos 4097) (pos 0) (pos 4096) 1 11
+    ∷ refused (pos 4097) (pos 0) (pos 4096) 1 11 "J\t4097\t0\t4096\t1\t1\t1\n7\n" "R\t11\n"
     -- e. "The same, k 2: f 1, corners 1, 8192 beside, 8190 above and below, centre 0"
-    ∷ accepted (pos 4097) (pos 0) (pos 4096) 2 1 (1 ∷ 8190 ∷ 1 ∷ 8192 ∷ 0 ∷ 8192 ∷ 1 ∷ 8190 ∷ 1 ∷ [])
+    ∷ accepted (pos 4097) (pos 0) (pos 4096) 2 1 32768 (1 ∷ 8190 ∷ 1 ∷ 8192 ∷ 0 ∷ 8192 ∷ 1 ∷ 8190 ∷ 1 ∷ [])
+    "J\t4097\t0\t4096\t2\t1\t1\n7\n" "K\t32768\t1\t8190\t1\t8192\t0\t8192\t1\t8190\t1\nP\t1\t1\n7\n"
     -- f. "1000, 1000, 1000, k 1: 2000 at (1,1) and (−1,−1), centre 12384, rest 0"
-    ∷ accepted (pos 1000) (pos 1000) (pos 1000) 1 1000 (2000 ∷ 0 ∷ 0 ∷ 0 ∷ 12384 ∷ 0 ∷ 0 ∷ 0 ∷ 2000 ∷ [])
+    ∷ accepted (pos 1000) (pos 1000) (pos 1000) 1 1000 16384 (2000 ∷ 0 ∷ 0 ∷ 0 ∷ 12384 ∷ 0 ∷ 0 ∷ 0 ∷ 2000 ∷ [])
+    "J\t1000\t1000\t1000\t1\t1\t1\n7\n" "K\t1024\t125\t0\t0\t0\t774\t0\t0\t0\t125\nP\t1\t1\n7\n"
     -- g. "1000, 1001, 1000, k 1: 11"
-    ∷ refused (pos 1000) (pos 1001) (pos 1000) 1 11
+    ∷ refused (pos 1000) (pos 1001) (pos 1000) 1 11 "J\t1000\t1001\t1000\t1\t1\t1\n7\n" "R\t11\n"
     -- h. "−1, 0, 0, k 1: 11"
-    ∷ refused (minus 1) (pos 0) (pos 0) 1 11
+    ∷ refused (minus 1) (pos 0) (pos 0) 1 11 "J\t-1\t0\t0\t1\t1\t1\n7\n" "R\t11\n"
     -- i. "262144, 0, 0, k 64: accepted; k 65: 5"
-    ∷ accepted (pos 262144) (pos 0) (pos 0) 64 0 (0 ∷ 0 ∷ 0 ∷ 524288 ∷ 0 ∷ 524288 ∷ 0 ∷ 0 ∷ 0 ∷ [])
-    ∷ refused (pos 262144) (pos 0) (pos 0) 65 5
+    ∷ accepted (pos 262144) (pos 0) (pos 0) 64 0 1048576 (0 ∷ 0 ∷ 0 ∷ 524288 ∷ 0 ∷ 524288 ∷ 0 ∷ 0 ∷ 0 ∷ [])
+    "J\t262144\t0\t0\t64\t1\t1\n7\n" "K\t2\t0\t0\t0\t1\t0\t1\t0\t0\t0\nP\t1\t1\n7\n"
+    ∷ refused (pos 262144) (pos 0) (pos 0) 65 5 "J\t262144\t0\t0\t65\t1\t1\n7\n" "R\t5\n"
     -- j. "Pixels 0, 1 in a row, 4096, 0, 0, k 1: 1, 1"
-    ∷ smooths (pos 4096) (pos 0) (pos 0) 1 0 (0 ∷ 0 ∷ 0 ∷ 8192 ∷ 0 ∷ 8192 ∷ 0 ∷ 0 ∷ 0 ∷ []) 2 1 (0 ∷ 1 ∷ []) (1 ∷ 1 ∷ [])
+    ∷ smooths (pos 4096) (pos 0) (pos 0) 0 16384 (0 ∷ 0 ∷ 0 ∷ 8192 ∷ 0 ∷ 8192 ∷ 0 ∷ 0 ∷ 0 ∷ []) 2 1 (0 ∷ 1 ∷ []) (1 ∷ 1 ∷ [])
+    "J\t4096\t0\t0\t1\t2\t1\n0\t1\n" "K\t2\t0\t0\t0\t1\t0\t1\t0\t0\t0\nP\t2\t1\n1\t1\n"
     -- k. "Shape f over rows `16384 0`, `0 0`: `14384 2000`, `2000 2000`"
-    ∷ smooths (pos 1000) (pos 1000) (pos 1000) 1 1000 (2000 ∷ 0 ∷ 0 ∷ 0 ∷ 12384 ∷ 0 ∷ 0 ∷ 0 ∷ 2000 ∷ []) 2 2
+    ∷ smooths (pos 1000) (pos 1000) (pos 1000) 1000 16384 (2000 ∷ 0 ∷ 0 ∷ 0 ∷ 12384 ∷ 0 ∷ 0 ∷ 0 ∷ 2000 ∷ []) 2 2
     (16384 ∷ 0 ∷ 0 ∷ 0 ∷ []) (14384 ∷ 2000 ∷ 2000 ∷ 2000 ∷ [])
+    "J\t1000\t1000\t1000\t1\t2\t2\n16384\t0\n0\t0\n" "K\t1024\t125\t0\t0\t0\t774\t0\t0\t0\t125\nP\t2\t2\n14384\t2000\n2000\t2000\n"
     ∷ []
 
 abbrev pub freeOf : Outcome → ℤ → ℕ
 freeOf Accepted f = natAbs f
 freeOf (Refused code) f = 0
 
-abbrev pub smoothedWhere : Outcome → List ℕ → List ℕ
-smoothedWhere Accepted pixels = pixels
-smoothedWhere (Refused code) pixels = []
+abbrev pub shapeOf : Case → Shape
+shapeOf c = Matrix (c .xx) (c .xy) (c .yy)
 
-abbrev pub smoothedBy : KernelAnswer → ℕ → ℕ → ℕ → List ℕ → List ℕ
-smoothedBy a w h k pixels = smoothedWhere (a .outcome) (stepsOf (a .kernel) w h k pixels)
+-- what the calls are promised to answer: the kernel of the shape, the run between the two pictures, and what its reader is shown
+abbrev pub kernelFor : Case → KernelAnswer
+kernelFor c = shapeKernelAnswer (shapeOf c) (c .steps)
+
+abbrev pub runFor : Case → Result
+runFor c = runOf (shapeOf c) (c .steps) (c .width) (c .height) (c .pixels) (nines (c .width) (c .height))
 
 -- the row with what the definitions give for its input
 unfoldable pub computed : Case → Case
@@ -117,10 +178,13 @@ computed c =
       width = c .width;
       height = c .height;
       pixels = c .pixels;
-      answer = outcomeNumber (kernelAnswer (c .xx) (c .xy) (c .yy) (c .steps) .outcome);
-      free =
-          freeOf (kernelAnswer (c .xx) (c .xy) (c .yy) (c .steps) .outcome)
-          (freeNumber (c .xx) (c .xy) (c .yy) (unitsOf (c .steps)));
-      weights = kernelAnswer (c .xx) (c .xy) (c .yy) (c .steps) .kernel .weights;
-      smoothed = smoothedBy (kernelAnswer (c .xx) (c .xy) (c .yy) (c .steps)) (c .width) (c .height) (c .steps) (c .pixels);
+      text = c .text;
+      answer = outcomeNumber (runFor c .outcome);
+      free = freeOf (runFor c .outcome) (freeNumber (c .xx) (c .xy) (c .yy) (unitsOf (c .steps)));
+      sum = kernelFor c .kernel .sum;
+      weights = kernelFor c .kernel .weights;
+      first = runFor c .first;
+      second = runFor c .second;
+      shown = shownOf (shapeOf c) (c .steps) (c .width) (c .height) (runFor c .first) (runFor c .second);
+      printed = answerText (bytes (c .text));
     }

@@ -11,7 +11,7 @@ use lib.ListN.{length}
 use Rattle.kernel.specs.declared.Kernel.{Kernel}
 use Rattle.averaging.specs.Steps.{stepOf}
 use Rattle.averaging.proofs.Images.{length-image}
-use Rattle.row_core.specs.Prepared.{kernelWith}
+use Rattle.row_core.specs.Prepared.{kernelOfCoefficients}
 use Rattle.row_core.specs.Rows.{AllPixels}
 use Rattle.row_core.proofs.Pixels.{part-pixels}
 use Rattle.stepping.specs.Whole.{HoldsRows}
@@ -96,7 +96,7 @@ returns c =
     let source : List ℕ = part (a .from) n (a .store .now) in
     let holds : HoldsRows (c .before .before .before .before .before .before .before .load-all .last .1 .0) (a .width) (a .height) source = rw (add-sub-cancel-left (a .from) n) at (c .before .before .before .before .before .before .before .load-all .ensures) in
     let stepped = c .before .before .step-all .ensures source (length-part (a .from) n (a .store .now) (s .pre .1 .0 .source)) holds in
-    let size = length-step (kernelWith (a .coefficients)) (a .width) (a .height) source in
+    let size = length-step (kernelOfCoefficients (a .coefficients)) (a .width) (a .height) source in
     rw (stepped, post-is (a .to) (a .to + n) (a .store .now) h, size)
 
 pub step-loaded-spec : {M : Type 1} → statement M

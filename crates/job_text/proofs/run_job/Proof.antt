@@ -55,7 +55,10 @@ pixels-are : (c : tie.After-shown) → let a = start-of (run-of c) .args in
 pixels-are c =
     let r = run-of c in
     let s = start-of r in
-    shown-after (s .args .header) (now (s .args .first)) (now (s .args .second)) (s .pre .0) (s .pre .1 .0) (c .shown .ensures) (run-is r .1 .0) (run-is r .1 .1)
+    let h = s .args .header in
+    shown-after h (now (s .args .first)) (now (s .args .second)) (s .pre .0) (s .pre .1 .0)
+    (rw (toZ-ofZ w32 (h .xx) (search needs), toZ-ofZ w32 (h .xy) (search needs), toZ-ofZ w32 (h .yy) (search needs)) at (c .shown .ensures))
+    (run-is r .1 .0) (run-is r .1 .1)
 
 text-is : (c : tie.After-shown) → let a = start-of (run-of c) .args in shownText (a .header) (now (c .shown .result)) ≡ jobAnswer (a .header) (now (a .first))
 text-is c =

@@ -1,5 +1,5 @@
--- `picture_calls::pixel_at` meets its contract: a pixel is written and a refusal numbered as the reading below it says, to
--- which the two signed numbers pass unchanged. Assumes nothing.
+-- `picture_calls::pixel_at` meets its contract: a pixel is written and a refusal numbered as `view::read_pixel` answers, to which
+-- the two signed numbers pass unchanged. Assumes nothing.
 use mathlib.Core.Path.{_≡_, refl, sym, _∙_}
 use mir.Syntax.{w32}
 use mir.ValLaws.{toZ-ofZ}
@@ -8,14 +8,14 @@ use borrow.Author.Needs.{needs}
 use Rattle.picture_calls.proofs.pixel_at.Statement.{statement}
 use Rattle.picture_calls.proofs.pixel_at.Tie as tie
 
-pixel-at-requires : tie.Need-pixel-at-requires
-pixel-at-requires c κs = search needs
+read-pixel-requires : tie.Need-read-pixel-requires
+read-pixel-requires c κs = search needs
 
-reading : (c : tie.After-pixel-at) → let a = c .before .before .args in
-    c .pixel-at .result ≡ readingOf (a .width) (a .height) (a .pixels .now) (a .column) (a .row)
+reading : (c : tie.After-read-pixel) → let a = c .before .before .args in
+    c .read-pixel .result ≡ readingOf (a .width) (a .height) (a .pixels .now) (a .column) (a .row)
 reading c =
     let s = c .before .before in
-    rw (toZ-ofZ w32 (s .args .column) (s .fits .column), toZ-ofZ w32 (s .args .row) (s .fits .row)) at (c .pixel-at .ensures)
+    rw (toZ-ofZ w32 (s .args .column) (s .fits .column), toZ-ofZ w32 (s .args .row) (s .fits .row)) at (c .read-pixel .ensures)
 
 enum-known-value : tie.Need-enum-known-value
 enum-known-value c = search needs
@@ -38,7 +38,7 @@ pub pixel-at-spec : {M : Type 1} → statement M
 pixel-at-spec =
     tie.close
     (tie.spec
-    pixel-at-requires
+    read-pixel-requires
     enum-known-value
     enum-known-code
     error-number-requires

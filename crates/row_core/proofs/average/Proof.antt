@@ -7,7 +7,7 @@ use borrow.Author.Needs.{needs}
 use Rattle.limits.specs.Limits.{largestPixel}
 use Rattle.kernel.specs.Offsets.{weighted}
 use Rattle.averaging.specs.Steps.{nearest}
-use Rattle.row_core.specs.Prepared.{kernelWith}
+use Rattle.row_core.specs.Prepared.{kernelOfCoefficients}
 use Rattle.row_core.specs.Rows.{pixelIn}
 use Rattle.row_core.proofs.Averages.{most-weighted}
 use Rattle.row_core.proofs.average.Statement.{statement}
@@ -15,9 +15,9 @@ use Rattle.row_core.proofs.average.Tie as tie
 
 -- the sum of the definition
 abbrev sum : tie.Start → ℕ
-sum s = weighted (pixelIn (s .args .left) (s .args .here) (s .args .right)) (kernelWith (s .args .coefficients) .weights)
+sum s = weighted (pixelIn (s .args .left) (s .args .here) (s .args .right)) (kernelOfCoefficients (s .args .coefficients) .weights)
 
-most : (s : tie.Start) → sum s ≤ kernelWith (s .args .coefficients) .sum * largestPixel
+most : (s : tie.Start) → sum s ≤ kernelOfCoefficients (s .args .coefficients) .sum * largestPixel
 most s = most-weighted (s .args .coefficients) (s .pre .0) (s .args .left) (s .args .here) (s .args .right) (s .pre .1 .0) (s .pre .1 .1) (s .pre .1 .2)
 
 -- the products that the code sums
@@ -61,7 +61,7 @@ divide-requires c κs =
 returns : tie.Need-returns
 returns c =
     let s = c .before .before .before .before .before .before in
-    c .divide .ensures ∙ ap (λ (t : ℕ). nearest t (kernelWith (s .args .coefficients) .sum)) (total (c .before))
+    c .divide .ensures ∙ ap (λ (t : ℕ). nearest t (kernelOfCoefficients (s .args .coefficients) .sum)) (total (c .before))
 
 pub average-spec : {M : Type 1} → statement M
 average-spec =

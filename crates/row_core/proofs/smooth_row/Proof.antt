@@ -9,7 +9,7 @@ use borrow.Author.Needs.{needs}
 use Rattle.kernel.specs.Offsets.{weighted}
 use Rattle.image.specs.Image.{entries}
 use Rattle.averaging.specs.Steps.{nearest}
-use Rattle.row_core.specs.Prepared.{kernelWith}
+use Rattle.row_core.specs.Prepared.{kernelOfCoefficients}
 use Rattle.row_core.specs.Rows.{columnOf, pixelIn, Pixels, rowOf}
 use Rattle.row_core.specs.declared.Coefficients.{Coefficients}
 use Rattle.row_core.specs.declared.Column.{Column}
@@ -21,7 +21,7 @@ use Rattle.row_core.proofs.smooth_row.Tie as tie
 -- the pixels of the row
 abbrev pixels : Coefficients → List ℕ → List ℕ → List ℕ → ℕ → ℕ
 pixels k a b c x =
-    nearest (weighted (pixelIn (columnOf a b c x) (columnOf a b c (x + 1)) (columnOf a b c (x + 2))) (kernelWith k .weights)) (kernelWith k .sum)
+    nearest (weighted (pixelIn (columnOf a b c x) (columnOf a b c (x + 1)) (columnOf a b c (x + 2))) (kernelOfCoefficients k .weights)) (kernelOfCoefficients k .sum)
 
 record Progress (k : Coefficients) (a b c o₀ o : List ℕ) (x : ℕ) : Type 0 where
   at : x ≤ length o₀

@@ -4,17 +4,16 @@ use mathlib.Core.Path.{_≡_, refl, sym, _∙_, ap}
 use mathlib.Core.Bool.{true, _&&_}
 use Prim.Native.Nat.{ℕ, _<_}
 use native.Mathlib.Omega.{arith}
-use borrow.Author.Tests.{not-true, not-false, ltb-true}
+use borrow.Author.Tests.{not-true, not-false}
 use lib.Dec.{eqb}
 use lib.ListN.{length}
 use Rattle.machine.specs.Calls.{servedPlace}
 use Rattle.machine.specs.declared.Found.the-variants.{At, Nothing}
-use Rattle.machine.specs.Slots.{slotCount, slotAt, hasStepsLeft, nextPlace, firstFrom}
+use Rattle.machine.specs.Slots.{slotCount, slotAt, hasStepsLeft, firstFrom}
 use Rattle.machine.specs.Store.{storeLength}
 use Rattle.machine.specs.Order.{inOrder}
-use Rattle.machine.proofs.Search as S
 use Rattle.machine.proofs.Orderly.{served-lt, left-filled, filled-slot}
-use Rattle.service.proofs.Laws.{usable-parts, tick-unusable, tick-found}
+use Rattle.service.proofs.Laws.{usable-parts, served-found, tick-unusable, tick-found, turn-unusable, turn-found}
 use borrow.Author.Needs.{needs}
 use Rattle.service.proofs.take_turn.Statement.{statement}
 use Rattle.service.proofs.take_turn.Tie as tie
@@ -22,14 +21,11 @@ use Rattle.service.proofs.take_turn.Tie as tie
 usable-requires : tie.Need-usable-requires
 usable-requires c κs = search needs
 
-no-turn-requires : tie.Need-no-turn-requires
-no-turn-requires c κs = search needs
-
 returns : tie.Need-returns
 returns c =
-    let a = c .before .before .before .before .args in
-    let e = tick-unusable (a .t1) (a .store .now) (sym (c .before .before .usable .ensures) ∙ not-true _ (c .before .if1 .taken)) in
-    rw (c .no-turn .ensures, e) (record { answer-is = refl; service-is = refl; within = omega arith }, refl)
+    let a = c .before .before .before .args in
+    let bad = sym (c .before .usable .ensures) ∙ not-true _ (c .if1 .taken) in
+    rw (turn-unusable (a .t1) (a .store .now) bad, tick-unusable (a .t1) (a .store .now) bad) (refl, refl)
 
 cast-next-place : tie.Need-cast-next-place
 cast-next-place c = search needs
@@ -51,10 +47,7 @@ module _ (c : tie.After-place) where
   found = sym (searched (c .before .before)) ∙ c .place .given .1
 
   at : (c .place .given .0 .0 < slotCount) × (0 < slotAt (c .before .before .before .before .before .before .before .args .t1) (c .place .given .0 .0) .left)
-  at =
-      let r = c .before .before .before .before .before .before .before .args .t1 in
-      let w = S.found hasStepsLeft (r .slots) slotCount (omega arith) slotCount (nextPlace slotCount (r .served)) (c .place .given .0 .0) (S.next-lt slotCount (r .served) (omega arith)) found in
-      (w .0, ltb-true _ _ (w .1))
+  at = served-found (c .before .before .before .before .before .before .before .args .t1) (c .place .given .0 .0) found
 
 find-requires : tie.Need-find-requires
 find-requires c κs = search needs
@@ -88,9 +81,6 @@ sub-t25 c = let h = at (c .before .before .before .before .before .before .befor
 enum-told : tie.Need-enum-told
 enum-told c = search needs
 
-no-turn-requires-2 : tie.Need-no-turn-requires-2
-no-turn-requires-2 c κs = search needs
-
 same-length : tie.Need-same-length
 same-length c = search needs
 
@@ -98,22 +88,23 @@ returns-2 : tie.Need-returns-2
 returns-2 c =
     let p = c .before .before .before .before .before .before .before in
     let a = p .before .before .before .before .before .before .before .args in
-    let e = tick-found (a .t1) (a .store .now) (good (p .before .before .before .before)) (At (p .place .given .0 .0)) (found p) in
-    rw e (record { answer-is = refl; service-is = refl; within = at p .0 }, c .before .before .before .step-slot .ensures)
+    let u = good (p .before .before .before .before) in
+    let f = At (p .place .given .0 .0) in
+    rw (turn-found (a .t1) (a .store .now) u f (found p), tick-found (a .t1) (a .store .now) u f (found p)) (refl, c .before .before .before .step-slot .ensures)
 
 returns-3 : tie.Need-returns-3
 returns-3 c =
-    let f = c .before .before .before in
+    let f = c .before .before in
     let a = f .before .before .before .before .before .args in
-    let e = tick-found (a .t1) (a .store .now) (good (f .before .before)) Nothing (sym (searched f) ∙ c .before .enum-told .given .1) in
-    rw (c .no-turn2 .ensures, e) (record { answer-is = refl; service-is = refl; within = omega arith }, refl)
+    let u = good (f .before .before) in
+    let e = sym (searched f) ∙ c .enum-told .given .1 in
+    rw (turn-found (a .t1) (a .store .now) u Nothing e, tick-found (a .t1) (a .store .now) u Nothing e) (refl, refl)
 
 pub take-turn-spec : {M : Type 1} → statement M
 take-turn-spec =
     tie.close
     (tie.spec
     usable-requires
-    no-turn-requires
     returns
     cast-next-place
     next-place-requires
@@ -124,7 +115,6 @@ take-turn-spec =
     step-slot-requires
     sub-t25
     enum-told
-    no-turn-requires-2
     same-length
     returns-2
     returns-3)

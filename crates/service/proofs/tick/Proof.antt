@@ -1,6 +1,6 @@
 -- `service::tick` meets its contract: the turn says what the tick answers and changes; the record is made of it. Assumes nothing.
 use Rattle.machine.specs.declared.Answer.the-variants.{Job, Idle, Refused}
-use Rattle.service.proofs.Laws.{turn-called}
+use Rattle.service.proofs.Laws.{turn-called, turn-within}
 use borrow.Author.Needs.{needs}
 use Rattle.service.proofs.tick.Statement.{statement}
 use Rattle.service.proofs.tick.Tie as tie
@@ -12,7 +12,7 @@ enum-known-answer : tie.Need-enum-known-answer
 enum-known-answer c = search needs
 
 turned-requires : tie.Need-turned-requires
-turned-requires c κs = search needs
+turned-requires c κs = turn-within _ _ _ (c .before .before .before .before .before .take-turn .ensures .0)
 
 enum-told : tie.Need-enum-told
 enum-told c = search needs
@@ -30,7 +30,7 @@ returns : tie.Need-returns
 returns c =
     let t = c .before .before .before .before .before .before .take-turn in
     let e = c .before .before .answer .given in
-    (rw (c .turned .ensures) (turn-called _ (t .result) _ (t .ensures .0) (Job _) (e .1)), t .ensures .1)
+    (rw (c .turned .ensures) (turn-called _ _ (t .result) (t .ensures .0) (Job _) (e .1)), t .ensures .1)
 
 same-length-2 : tie.Need-same-length-2
 same-length-2 c = search needs
@@ -38,7 +38,7 @@ same-length-2 c = search needs
 returns-2 : tie.Need-returns-2
 returns-2 c =
     let t = c .before .before .before .before .take-turn in
-    (turn-called _ (t .result) _ (t .ensures .0) Idle (c .enum-told .given .1), t .ensures .1)
+    (turn-called _ _ (t .result) (t .ensures .0) Idle (c .enum-told .given .1), t .ensures .1)
 
 same-length-3 : tie.Need-same-length-3
 same-length-3 c = search needs
@@ -47,7 +47,7 @@ returns-3 : tie.Need-returns-3
 returns-3 c =
     let t = c .before .before .before .before .before .before .take-turn in
     let e = c .before .before .answer2 .given in
-    (rw (c .refused .ensures) (turn-called _ (t .result) _ (t .ensures .0) (Refused _) (e .1)), t .ensures .1)
+    (rw (c .refused .ensures) (turn-called _ _ (t .result) (t .ensures .0) (Refused _) (e .1)), t .ensures .1)
 
 pub tick-spec : {M : Type 1} → statement M
 tick-spec =

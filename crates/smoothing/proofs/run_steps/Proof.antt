@@ -10,14 +10,14 @@ use lib.ListN.{length}
 use borrow.Author.Needs.{needs}
 use Rattle.kernel.specs.declared.Kernel.{Kernel}
 use Rattle.averaging.specs.Steps.{iterate, stepsOf}
-use Rattle.stepping.specs.Step.{Filled}
+use Rattle.stepping.specs.Step.{PicturePair}
 use Rattle.smoothing.proofs.Steps.{as-many, one-more, even, odd}
 use Rattle.smoothing.proofs.run_steps.Statement.{statement}
 use Rattle.smoothing.proofs.run_steps.Tie as tie
 
 record Turned (kernel : Kernel) (w h turns : ℕ) (start first second : List ℕ) (n : ℕ) : Type 0 where
   within : n ≤ turns
-  filled : Filled (length first) (length second) w h
+  filled : PicturePair (length first) (length second) w h
   first-after : first ≡ stepsOf kernel w h (2 * n) start
   second-after : 1 ≤ n → second ≡ stepsOf kernel w h (2 * n - 1) start
 

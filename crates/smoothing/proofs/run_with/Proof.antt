@@ -11,7 +11,8 @@ enum-told c = search needs
 run-steps-requires : tie.Need-run-steps-requires
 run-steps-requires c κs =
     let pre = c .before .before .before .before .before .before .before .pre in
-    (pre .0 (c .before .before .enum-told .given .1), (search needs, search needs))
+    let accepted = c .before .before .enum-told .given .1 in
+    (pre .0 accepted, (pre .1 .0 accepted, pre .1 .1 accepted))
 
 enum-known-outcome : tie.Need-enum-known-outcome
 enum-known-outcome c = search needs

@@ -1,21 +1,24 @@
 -- `smoothing::shown` meets its contract: where the checks pass, each picture has w × h pixels, and the parity of the steps says
 -- which is shown; else no pixel is. Assumes nothing.
-use mathlib.Core.Path.{_≡_, sym, _∙_}
+use mathlib.Core.Path.{_≡_, sym, ap, _∙_}
 use native.Mathlib.Omega.{arith}
 use lib.ListN.{length}
 use lib.Seq.{length-take-le}
 use borrow.Author.Needs.{needs}
 use Rattle.limits.specs.Errors.{firstRefusal}
+use Rattle.limits.specs.declared.Outcome.{Outcome}
 use Rattle.limits.specs.declared.Outcome.the-variants.{Accepted}
-use Rattle.stepping.specs.Step.{Filled}
-use Rattle.smoothing.specs.Shown.{shownChecks, shownOf}
+use Rattle.stepping.specs.Step.{PicturePair}
+use Rattle.covariance.specs.Shapes.{kernelOfShape}
+use Rattle.smoothing.specs.Runs.{runChecks}
+use Rattle.smoothing.specs.Shown.{shownOf}
 use Rattle.smoothing.proofs.Steps.{even, odd}
-use Rattle.smoothing.proofs.Runs.{filled}
+use Rattle.smoothing.proofs.Runs.{fills-pair, same-outcome}
 use Rattle.smoothing.proofs.shown.Statement.{statement}
 use Rattle.smoothing.proofs.shown.Tie as tie
 
-checked-requires : tie.Need-checked-requires
-checked-requires c κs = search needs
+run-kernel-requires : tie.Need-run-kernel-requires
+run-kernel-requires c κs = search needs
 
 enum-told : tie.Need-enum-told
 enum-told c = search needs
@@ -23,17 +26,27 @@ enum-told c = search needs
 area-requires : tie.Need-area-requires
 area-requires c κs = search needs
 
+-- the outcome of the call is what the checks come to
+abbrev outcome : tie.Start → Outcome
+outcome s =
+    let a = s .args in
+    firstRefusal (runChecks (a .shape) (a .steps) (a .width) (a .height) (length (a .first .now)) (length (a .second .now)))
+
+outcome-is : (c : tie.After-run-kernel) → c .run-kernel .result .outcome ≡ outcome (c .before .before .before)
+outcome-is c =
+    let s = c .before .before .before in
+    ap (λ answer. answer .outcome) (c .run-kernel .ensures) ∙ same-outcome (kernelOfShape (s .args .shape) (s .args .steps)) (s .args .steps) (outcome s)
+
 -- the checks passed ..
-fine : (c : tie.After-area) → let a = c .before .before .before .before .before .before .args in
-    firstRefusal (shownChecks (a .steps) (a .width) (a .height) (length (a .first .now)) (length (a .second .now))) ≡ Accepted
-fine c = sym (c .before .before .before .checked .ensures) ∙ c .before .enum-told .given .1
+fine : (c : tie.After-area) → outcome (c .before .before .before .before .before .before) ≡ Accepted
+fine c = sym (outcome-is (c .before .before .before)) ∙ c .before .enum-told .given .1
 
 -- .. and so both pictures have w × h pixels
 full : (c : tie.After-area) → let a = c .before .before .before .before .before .before .args in
-    Filled (length (a .first .now)) (length (a .second .now)) (a .width) (a .height)
+    PicturePair (length (a .first .now)) (length (a .second .now)) (a .width) (a .height)
 full c =
     let a = c .before .before .before .before .before .before .args in
-    filled (a .steps) (a .width) (a .height) (length (a .first .now)) (length (a .second .now)) (fine c)
+    fills-pair (a .shape) (a .steps) (a .width) (a .height) (length (a .first .now)) (length (a .second .now)) (fine c) .0
 
 slice-aggregate-result : tie.Need-slice-aggregate-result
 slice-aggregate-result c = let f = full (c .before .before) in sym (length-take-le _ _ (omega arith))
@@ -61,13 +74,13 @@ returns-2 c =
 
 returns-3 : tie.Need-returns-3
 unfolding shownOf
-returns-3 c = rw (← c .before .before .before .checked .ensures, c .before .enum-told2 .given .1)
+returns-3 c = rw (← outcome-is (c .before .before .before), c .before .enum-told2 .given .1)
 
 pub shown-spec : {M : Type 1} → statement M
 shown-spec =
     tie.close
     (tie.spec
-    checked-requires
+    run-kernel-requires
     enum-told
     area-requires
     slice-aggregate-result

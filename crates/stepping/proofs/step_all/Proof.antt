@@ -10,7 +10,7 @@ use lib.Seq.{take-all}
 use borrow.Author.Needs.{needs}
 use Rattle.kernel.specs.declared.Kernel.{Kernel}
 use Rattle.image.specs.Image.{rows}
-use Rattle.row_core.specs.Prepared.{kernelWith}
+use Rattle.row_core.specs.Prepared.{kernelOfCoefficients}
 use Rattle.row_core.proofs.Rows.{lineOf, length-row, row-inside, by-lines}
 use Rattle.stepping.specs.Whole.{HoldsRows}
 use Rattle.stepping.specs.declared.Window.{Window}
@@ -30,7 +30,7 @@ record Progress (k : Kernel) (w h last : ℕ) (lines d₀ d : List ℕ) (v : Win
 
 abbrev Inv-loop : tie.InvT-loop
 Inv-loop lines target₀ width height coefficients last size window₀ row₀ y₀ target window row y =
-    Progress (kernelWith coefficients) width height last lines target₀ target window row y
+    Progress (kernelOfCoefficients coefficients) width height last lines target₀ target window row y
 
 abbrev μ-loop : tie.MeasureT-loop
 μ-loop lines target₀ width height coefficients last size window₀ row₀ y₀ target window row y = last - y
@@ -104,7 +104,7 @@ loop-again c =
     let s = c .before .before .before .before .before .before .before .before .before in
     let a = s .args in
     let l = c .before .before .before .before .before .before .loop in
-    let k = kernelWith (a .coefficients) in
+    let k = kernelOfCoefficients (a .coefficients) in
     let r = c .before .before .before .step-row in
     let low : l .done < a .height = omega arith in
     let inside = row-inside (a .width) (a .height) (l .done) low in
@@ -141,7 +141,7 @@ returns c source fills holds =
     let s = c .before .before .before .before .before .before .before .before .before in
     let a = s .args in
     let l = c .before .before .before .before .before .before .loop in
-    let k = kernelWith (a .coefficients) in
+    let k = kernelOfCoefficients (a .coefficients) in
     let v = c .before .before .before .before .bottom in
     let r = c .before .before .step-row2 in
     let f = lineOf k (a .width) (a .height) source in

@@ -3,7 +3,7 @@
 use mathlib.Core.Path.{_∙_}
 use Prim.Native.Nat.{_+_}
 use native.Mathlib.Nat.{add-sub-cancel-left}
-use Rattle.row_core.specs.Prepared.{kernelWith}
+use Rattle.row_core.specs.Prepared.{kernelOfCoefficients}
 use Rattle.row_core.specs.Rows.{part}
 use Rattle.row_core.proofs.Rows.{length-part, length-row}
 use Rattle.stepping.proofs.Buffers.{placed}
@@ -89,7 +89,7 @@ returns c =
     let s = c .before .before .before .before .before .before .before .before .before in
     let a = s .args in
     let e = length-part (a .row) (a .width) (a .target .now) (s .pre .1 .row) in
-    let k = kernelWith (a .coefficients) in
+    let k = kernelOfCoefficients (a .coefficients) in
     let size = a .width + 2 in
     placed (a .row) (a .width) (a .target .now) (c .before .before .smooth-row .ensures ∙ simp (add-sub-cancel-left, e))
     (length-row k (a .width) (part (a .window .above) size (a .lines .now)) (part (a .window .at) size (a .lines .now)) (part (a .window .below) size (a .lines .now)))

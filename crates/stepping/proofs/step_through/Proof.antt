@@ -11,7 +11,7 @@ use lib.Seq.{take-all}
 use borrow.Author.Needs.{needs}
 use Rattle.kernel.specs.declared.Kernel.{Kernel}
 use Rattle.image.specs.Image.{rows}
-use Rattle.row_core.specs.Prepared.{kernelWith}
+use Rattle.row_core.specs.Prepared.{kernelOfCoefficients}
 use Rattle.row_core.specs.Rows.{paddedOf, AllPixels, part}
 use Rattle.row_core.proofs.Pixels.{part-pixels, padded-pixels}
 use Rattle.row_core.proofs.Rows.{length-part, lineOf, length-row, row-inside, by-lines}
@@ -32,7 +32,7 @@ record Progress (k : Kernel) (w h last : ℕ) (source d₀ d b₀ b : List ℕ) 
 
 abbrev Inv-loop : tie.InvT-loop
 Inv-loop source target₀ lines₀ width height coefficients last window₀ row₀ y₀ target lines window row y =
-    Progress (kernelWith coefficients) width height last source target₀ target lines₀ lines window row y
+    Progress (kernelOfCoefficients coefficients) width height last source target₀ target lines₀ lines window row y
 
 abbrev μ-loop : tie.MeasureT-loop
 μ-loop source target₀ lines₀ width height coefficients last window₀ row₀ y₀ target lines window row y = last - y
@@ -108,7 +108,7 @@ loop-again c =
     let s = c .before .before .before .before .before .before .before .before .before .before .before .before .before .before .before .before .before in
     let a = s .args in
     let l = c .before .before .before .before .before .before .before .before .before .loop in
-    let k = kernelWith (a .coefficients) in
+    let k = kernelOfCoefficients (a .coefficients) in
     let r = c .before .before .before .before .before .step-inner-row in
     let y : l .y < a .height - 1 = omega arith in
     let inside = row-inside (a .width) (a .height) (l .y) (omega arith) in
@@ -164,7 +164,7 @@ returns c =
     let s = c .before .before .before .before .before .before .before .before .before .before .before .before .before .before .before in
     let a = s .args in
     let l = c .before .before .before .before .before .before .before .loop in
-    let k = kernelWith (a .coefficients) in
+    let k = kernelOfCoefficients (a .coefficients) in
     let v = c .before .before .before .before .bottom in
     let r = c .before .before .step-row in
     let f = lineOf k (a .width) (a .height) (a .source .now) in

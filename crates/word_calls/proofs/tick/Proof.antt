@@ -7,7 +7,7 @@ use borrow.Author.Tests.{not-true, not-false}
 use Rattle.machine.specs.declared.Service.{Service}
 use Rattle.machine.specs.Calls.{Result, tickOf}
 use Rattle.service.specs.Called.{afterTurn}
-use Rattle.service.proofs.Laws.{turn-called}
+use Rattle.service.proofs.Laws.{turn-called, turn-within}
 use Rattle.record_words.specs.Words.{fieldsFit}
 use Rattle.record_words.proofs.Laws.{fit-length}
 use Rattle.word_calls.proofs.Laws.{unfit-leaves, fit-leaves, unfit-store, fit-store, turn-words}
@@ -44,7 +44,7 @@ take-turn-requires : tie.Need-take-turn-requires
 take-turn-requires c κs = search needs
 
 hand-out-turn-requires : tie.Need-hand-out-turn-requires
-hand-out-turn-requires c κs = (fit-length _ (good (c .before .before .before .before .before .before .before .before)), c .before .before .before .before .take-turn .ensures .0 .within)
+hand-out-turn-requires c κs = (fit-length _ (good (c .before .before .before .before .before .before .before .before)), turn-within _ _ _ (c .before .before .before .before .take-turn .ensures .0))
 
 same-length-2 : tie.Need-same-length-2
 same-length-2 c = search needs
@@ -72,8 +72,8 @@ returns-2 c =
           _
           _
           _
-          (turn-called r t _ is (t .answer) refl)
-          (handed .0, (handed .1 .0 ∙ turn-words words fit r held (t .answer) (t .place) (t .left) (is .within), handed .1 .1)),
+          (turn-called r store t is (t .answer) refl)
+          (handed .0, (handed .1 .0 ∙ turn-words words fit r held (t .answer) (t .place) (t .left) (turn-within r store t is), handed .1 .1)),
       fit-store call words old store [] fit r held _ (made .take-turn .ensures .1),
     )
 

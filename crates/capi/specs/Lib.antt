@@ -1,2 +1,0 @@
--- What the exported call on texts returns.
-pub mod Texts

@@ -1,2 +1,0 @@
--- Worked readings.
-pub mod Table

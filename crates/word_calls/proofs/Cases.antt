@@ -1,0 +1,26 @@
+-- The exported calls worked through by hand are what the definitions compute. Assumes nothing.
+use mathlib.Core.Path.{_≡_, refl}
+use mathlib.Core.List.{map}
+use Rattle.kernel.specs.Molecule.{kernelWith}
+use Rattle.kernel.specs.Existence.{kernelExists}
+use Rattle.covariance.specs.Shapes.{variancesFine, directionFine, covarianceXX, covarianceXY, covarianceYY}
+use Rattle.image.specs.Image.{pixelAt, entries, rows}
+use Rattle.averaging.specs.Steps.{stepOf, weightedAt}
+use Rattle.machine.specs.Slots.{firstFrom, countOf, everySlot}
+use Rattle.machine.specs.Order.{allZero, filledFine, slotFine, inOrder, usable}
+use Rattle.machine.specs.Calls.{freeBuffers, submitChecks, submitOf, tickOf, collectChecks, collectOf, withdrawOf, freeCountOf}
+use Rattle.record_words.specs.Words.{wordsFit, fieldsFit, slotOf, serviceOf, withSlots}
+use Rattle.word_calls.specs.Exported.{throughWords, countWords}
+use Rattle.word_calls.proofs.Table.{calls, leftBy, counts, counted, openings, openedBy}
+
+pub worked-calls : map leftBy calls ≡ map (λ c. c .left) calls
+unfolding leftBy throughWords fieldsFit wordsFit serviceOf slotOf withSlots submitOf submitChecks variancesFine directionFine covarianceXX covarianceXY covarianceYY freeBuffers tickOf collectOf collectChecks withdrawOf usable inOrder everySlot slotFine allZero filledFine countOf firstFrom kernelExists kernelWith stepOf weightedAt rows entries pixelAt
+worked-calls = refl
+
+pub worked-counts : map counted counts ≡ counts
+unfolding counted countWords freeCountOf freeBuffers fieldsFit wordsFit serviceOf slotOf inOrder everySlot slotFine allZero filledFine countOf kernelExists
+worked-counts = refl
+
+pub worked-openings : map openedBy openings ≡ openings
+unfolding openedBy withSlots
+worked-openings = refl
