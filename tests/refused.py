@@ -6,6 +6,8 @@ usage: tests/refused.py [CRATE..]
 `rt ci` asks that an edit be refused as a whole. The first error has to be of a fact that does not hold, not of a proof file that no
 longer fits the code. Where an edit changes several functions at once it names each after 'refuses:', and each has to be refused by
 itself: it is not proved, and the first error in its own proof is of a fact, not of a name that is missing or of another proof.
+A wrong definition that functions meet only by way of a law names the law after 'breaks:', as 'Laws.count-unfit' for the one in
+proofs/Laws.antt: the law has to fail by itself.
 The last line is 'N refused, M faults', N the number of wrong programs; the exit status is 0 where M is 0.
 """
 import glob, os, re, sys
@@ -14,14 +16,29 @@ ROOT = os.path.dirname(os.path.dirname(os.path.abspath(__file__)))
 
 
 def programs(edit):
-    """(function, replacements) of each wrong program that an edit names."""
+    """(what looks for its fault, its function or law, replacements) of each wrong program that an edit names."""
     named = []
     for line in open(edit, encoding="utf-8"):
-        if line.startswith("refuses: "):
-            named.append([line.split(": ", 1)[1].strip(), 0])
+        word, _, rest = line.partition(": ")
+        if word in LOOKS_FOR:
+            named.append([LOOKS_FOR[word], rest.strip(), 0])
         elif line.startswith("new:") and named:
-            named[-1][1] += 1
+            named[-1][2] += 1
     return named
+
+
+def first_fault(errors):
+    """What is wrong with the first error of a proof, or None where it is of a fact that fails."""
+    if "can be named from here" in errors[0] or "was not admitted" in errors[0]:
+        return f"its first error is no fact that fails: {errors[0][:200]}"
+    return None
+
+
+def law_fault(log, crate, law):
+    """What is wrong with the refusal of a law, or None."""
+    file, name = law.split(".", 1)
+    errors = [line for line in log if f"/proofs/{file}.antt:" in line and f": error: `{name}`: " in line]
+    return first_fault(errors) if errors else "no error stands in its proof"
 
 
 def fault(log, crate, function):
@@ -32,11 +49,10 @@ def fault(log, crate, function):
     if not any(": not proved" in line for line in verdicts):
         return f"the log does not say that it is not proved: {verdicts}"
     errors = [line for line in log if f"/proofs/{function.replace('::', '/')}/Proof.antt:" in line and ": error: " in line]
-    if not errors:
-        return "no error stands in its own proof"
-    if "can be named from here" in errors[0] or "was not admitted" in errors[0]:
-        return f"its first error is no fact that fails: {errors[0][:200]}"
-    return None
+    return first_fault(errors) if errors else "no error stands in its own proof"
+
+
+LOOKS_FOR = {"refuses": fault, "breaks": law_fault}
 
 
 def misfit(log):
@@ -70,10 +86,10 @@ def main():
                 faults += 1
             else:
                 refused += 1
-        for function, replacements in named:
-            wrong = fault(log, crate, function) if replacements else "it has no replacement"
+        for look, name, replacements in named:
+            wrong = look(log, crate, name) if replacements else "it has no replacement"
             if wrong:
-                print(f"refused: {crate}/{label}: {function}: {wrong}")
+                print(f"refused: {crate}/{label}: {name}: {wrong}")
                 faults += 1
             else:
                 refused += 1
