@@ -331,6 +331,10 @@ not-in-order r =
 abbrev pub only : Slot → ℕ → Service
 only s last = keeps (s ∷ none ∷ none ∷ none ∷ none ∷ none ∷ none ∷ none ∷ []) last 0 7
 
+-- a job of one step over one pixel
+abbrev pub one-pixel : ℕ → Slot
+one-pixel number = seat number (pos 0) (pos 0) (pos 0) 1 1 1 1
+
 abbrev pub records : List Worked
 records =
     -- "each filled one meets refusals 5, 6 and 10's limits": 64 steps, and pictures as wide and as high as can be
@@ -350,15 +354,15 @@ records =
     ∷ not-in-order (only (seat 3 (pos 4097) (pos 0) (pos 4096) 1 1 1 1) 3)
     ∷ in-order (only (seat 3 (pos 4097) (pos 0) (pos 4096) 2 1 1 1) 3) 14
     -- "a number from 1 to the last given shared with no other seat, steps left at most its steps"
-    ∷ not-in-order (only (seat 4 (pos 0) (pos 0) (pos 0) 1 1 1 1) 3)
+    ∷ not-in-order (only (one-pixel 4) 3)
     ∷ not-in-order (only (seat 3 (pos 0) (pos 0) (pos 0) 1 2 1 1) 3)
     ∷ not-in-order
     (keeps
-    (none ∷ seat 3 (pos 0) (pos 0) (pos 0) 1 1 1 1 ∷ none ∷ none ∷ none ∷ none ∷ none ∷ seat 3 (pos 0) (pos 0) (pos 0) 1 1 1 1 ∷ [])
+    (none ∷ one-pixel 3 ∷ none ∷ none ∷ none ∷ none ∷ none ∷ one-pixel 3 ∷ [])
     3 7 7)
     ∷ in-order
     (keeps
-    (none ∷ seat 3 (pos 0) (pos 0) (pos 0) 1 1 1 1 ∷ none ∷ none ∷ none ∷ none ∷ none ∷ seat 2 (pos 0) (pos 0) (pos 0) 1 1 1 1 ∷ [])
+    (none ∷ one-pixel 3 ∷ none ∷ none ∷ none ∷ none ∷ none ∷ one-pixel 2 ∷ [])
     3 7 7)
     12
     -- "each empty seat is all zero"
@@ -369,6 +373,10 @@ records =
     ∷ not-in-order (only (seat 0 (pos 0) (pos 0) (pos 0) 0 1 0 0) 3)
     ∷ not-in-order (only (seat 0 (pos 0) (pos 0) (pos 0) 0 0 1 0) 3)
     ∷ not-in-order (only (seat 0 (pos 0) (pos 0) (pos 0) 0 0 0 1) 3)
+    -- a number alone makes a filled seat, and nothing else does: no job without one, even where no other seat is empty
+    ∷ not-in-order (only (seat 3 (pos 0) (pos 0) (pos 0) 0 0 0 0) 3)
+    ∷ in-order (keeps (map one-pixel (1 ∷ 2 ∷ 3 ∷ 4 ∷ 5 ∷ 6 ∷ 7 ∷ 8 ∷ [])) 8 0 7) 0
+    ∷ not-in-order (keeps (map one-pixel (0 ∷ 2 ∷ 3 ∷ 4 ∷ 5 ∷ 6 ∷ 7 ∷ 8 ∷ [])) 8 0 7)
     -- ".. and both named seats are 0 to 7"
     ∷ not-in-order (keeps (none ∷ none ∷ none ∷ none ∷ none ∷ none ∷ none ∷ none ∷ []) 3 8 0)
     ∷ not-in-order (keeps (none ∷ none ∷ none ∷ none ∷ none ∷ none ∷ none ∷ none ∷ []) 3 0 8)
