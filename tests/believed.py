@@ -20,11 +20,12 @@ INNER = {"row_core", "stepping", "slots", "buffers", "record_words", "job_printe
 # What the theorems say that no contract cites: crate, and the definition that a statement is made of.
 THEOREMS = [
     ("kernel", "Weights"), ("kernel", "Sound"), ("averaging", "Distance"), ("averaging", "Entrywise"), ("averaging", "exactOf"),
-    ("averaging", "brightness"), ("covariance", "WithinHalfUnit"), ("covariance", "alongX"), ("covariance", "alongY"),
+    ("averaging", "brightness"), ("averaging", "BrightSpots"), ("covariance", "WithinHalfUnit"), ("covariance", "alongX"), ("covariance", "alongY"),
     ("covariance", "covarianceNumber"), ("covariance", "covarianceValues"), ("differences", "CloseTo"),
     ("differences", "unitsPerStep"), ("differences", "IsWhole"), ("differences", "turnedBy"), ("job_printer", "GreatestDivisor"),
     ("job_parser", "IsText"), ("machine", "Demand3"), ("machine", "Demand3InNumbers"), ("machine", "CallsInNumbers"),
-    ("machine", "ElevenExactly"), ("word_calls", "ExportedDemand3"),
+    ("machine", "ElevenExactly"), ("machine", "TickEnhancesNone"), ("machine", "Collected"), ("machine", "jobCollected"),
+    ("machine", "pictureCollected"), ("word_calls", "ExportedDemand3"),
 ]
 
 WORD = re.compile(r"[^\s(){};,.λ→]+")

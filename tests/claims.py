@@ -1,6 +1,7 @@
 #!/usr/bin/env python3
-"""docs/CLAIMS.md against the repository: each promise of documents 01 and 90 has a row by its id, and each file and name that
-a row has between backticks is there. A path is meant from the root, from crates/, or from the folder of a crate."""
+"""docs/CLAIMS.md against the repository: each promise of documents 01 and 90, and of the change requests that have landed, has a
+row by its id, and each file and name that a row has between backticks is there. A path is meant from the root, from crates/, or
+from the folder of a crate."""
 
 import pathlib
 import re
@@ -9,20 +10,21 @@ import sys
 ROOT = pathlib.Path(__file__).resolve().parents[1]
 CLAIMS = ROOT / "docs" / "CLAIMS.md"
 
-# The ids of the promises: a letter, the first number and the last.
+# The ids of the promises: a letter, or a change request and a dot, the first number and the last.
 PROMISES = [
     ("D", 1, 9), ("I", 1, 4), ("P", 1, 5), ("H", 1, 10), ("K", 1, 17), ("R", 1, 11), ("X", 1, 10), ("V", 1, 26), ("L", 1, 29),
     ("N", 0, 13), ("O", 1, 8), ("U", 1, 7), ("B", 1, 21), ("T", 0, 11), ("Y", 1, 5), ("C", 1, 10), ("F", 1, 11), ("G", 1, 25),
+    ("S1.", 1, 7),
 ]
 SOURCES = {".rt", ".antt", ".rs", ".py", ".sh", ".h", ".c", ".toml", ".md", ".edit"}
 EMPTY = {"", "—"}
 
 
 def ids_of(cell: str) -> set[str]:
-    """'K3, K4' and 'T2 to T8' as single ids."""
+    """'K3, K4', 'T2 to T8' and 'S1.1 to S1.3' as single ids."""
     found = set()
     for part in cell.split(","):
-        match = re.fullmatch(r"\s*([A-Z])(\d+)(?: to ([A-Z])(\d+))?\s*", part)
+        match = re.fullmatch(r"\s*([A-Z](?:\d+\.)?)(\d+)(?: to ([A-Z](?:\d+\.)?)(\d+))?\s*", part)
         if match is None or (match[3] or match[1]) != match[1]:
             return set()
         found |= {f"{match[1]}{n}" for n in range(int(match[2]), int(match[4] or match[2]) + 1)}
@@ -75,7 +77,7 @@ def main() -> int:
         faults += [f"line {number}: no promise {one}" for one in sorted(found - wanted)]
         for span in re.findall(r"`([^`]+)`", line):
             faults += [f"line {number}: nothing is called {gone}" for gone in missing_in(span, paths, words)]
-    faults += [f"{one} has no row" for one in sorted(wanted - answered, key=lambda one: (one[0], int(one[1:])))]
+    faults += [f"{one} has no row" for one in sorted(wanted - answered, key=lambda one: (one[0], [int(n) for n in one[1:].split(".")]))]
     for fault in faults:
         print(f"docs/CLAIMS.md: {fault}")
     print(f"{len(answered & wanted)} of {len(wanted)} promises answered, {len(faults)} faults")

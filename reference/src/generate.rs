@@ -5,6 +5,7 @@ use crate::job_text::{Job, MAX_TEXT};
 use crate::kernel::{Covariance, UNITS};
 use crate::random::Random;
 use crate::shape::{Direction, Shape};
+use crate::smooth::places;
 
 /// Step counts outside the limits.
 const BAD_STEPS: [u32; 4] = [0, 65, 66, u32::MAX];
@@ -479,6 +480,62 @@ pub fn random_pixels(random: &mut Random, count: usize) -> Vec<u16> {
             1 => random.below(3) as u16,
             2 => random.pick(&[0, 0, 0, 0, 0, 0, 0, 1600]),
             _ => random.bits() as u16,
+        })
+        .collect()
+}
+
+/// Pixels for peaks and hollows: those above, even grey but for a unit here and
+/// there, or bright at the border and dark inside or the other way round.
+pub fn random_heights(random: &mut Random, width: u32, height: u32) -> Vec<u16> {
+    let area = width as usize * height as usize;
+    match random.below(4) {
+        0 => {
+            let level = random.below(65535) as u16;
+            (0..area)
+                .map(|_| level + u16::from(random.once_in(4)))
+                .collect()
+        }
+        1 => {
+            let (border, inside) = random.pick(&[(65535, 0), (0, 65535), (1, 0), (7, 8)]);
+            let at_border = |place, side| place == 0 || place == i64::from(side) - 1;
+            places(width, height)
+                .map(|(x, y)| {
+                    if at_border(x, width) || at_border(y, height) {
+                        border
+                    } else {
+                        inside
+                    }
+                })
+                .collect()
+        }
+        _ => random_pixels(random, area),
+    }
+}
+
+/// How far two pictures may differ at each pixel: not at all, by little, by all.
+pub fn random_gap(random: &mut Random) -> u16 {
+    match random.below(4) {
+        0 => random.below(4) as u16,
+        1 => random.pick(&[0, 1, 65535]),
+        2 => random.below(300) as u16,
+        _ => random.bits() as u16,
+    }
+}
+
+/// A picture that differs from another one by at most `gap` at each pixel:
+/// anyhow, by all of it up or down, or by all of it to one side.
+pub fn pixels_within(random: &mut Random, pixels: &[u16], gap: u16) -> Vec<u16> {
+    let gap = i64::from(gap);
+    let kind = random.below(3);
+    pixels
+        .iter()
+        .map(|pixel| {
+            let moved = match kind {
+                0 => random.between(-gap, gap),
+                1 => random.pick(&[-gap, gap]),
+                _ => gap,
+            };
+            (i64::from(*pixel) + moved).clamp(0, 65535) as u16
         })
         .collect()
 }

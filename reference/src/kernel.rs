@@ -12,6 +12,7 @@
 //! and that is checked before it is given.
 
 use crate::error_code::{check_steps, ErrorCode, NO_KERNEL};
+use std::ops::RangeInclusive;
 use std::sync::OnceLock;
 
 /// One square pixel of variance in the units of a covariance.
@@ -234,9 +235,19 @@ pub fn free_number(xx: i64, xy: i64, yy: i64, m: i64) -> i64 {
     xy.abs().max(xx + yy - m)
 }
 
+/// The numbers f with which none of document 01's nine weights is negative; an
+/// empty range where no kernel exists.
+pub fn free_numbers(xx: i64, xy: i64, yy: i64, m: i64) -> RangeInclusive<i64> {
+    free_number(xx, xy, yy, m)..=xx.min(yy)
+}
+
 /// The nine weights over 4 × m by document 01's formulas, whatever their signs.
 pub fn molecule(xx: i64, xy: i64, yy: i64, m: i64) -> [i64; 9] {
-    let f = free_number(xx, xy, yy, m);
+    molecule_with(free_number(xx, xy, yy, m), xx, xy, yy, m)
+}
+
+/// The same formulas with any free number f.
+pub fn molecule_with(f: i64, xx: i64, xy: i64, yy: i64, m: i64) -> [i64; 9] {
     OFFSETS.map(|offset| match offset {
         (1, 1) | (-1, -1) => f + xy,
         (1, -1) | (-1, 1) => f - xy,

@@ -1,8 +1,8 @@
 //! Reference program for the picture smoother.
 //!
-//! It is written from document 01 alone and shares no code with the proved
-//! program, so that a mistake in one of them shows as a difference between
-//! the two. It prefers the plainest way to a result over the quickest one,
+//! It is written from document 01 (and, for [`extrema`], from document 02's
+//! S-1) alone and shares no code with the proved program, so that a mistake in
+//! one of them shows as a difference between the two. It prefers the plainest way to a result over the quickest one,
 //! and where document 01 gives both a definition and a shorter test it uses
 //! the definition (the existence of a kernel) and leaves the shorter test to
 //! the tests.
@@ -11,6 +11,7 @@
 //! - [`kernel`]: does a kernel exist, and the nine weights of the molecule.
 //! - [`shape`]: Matrix, Round and Oval to a covariance in 1/4096 square pixel.
 //! - [`smooth`]: the pixel at a place, a step, a run, the exact run and the distance from it.
+//! - [`extrema`]: peaks that do not rise, pictures that stay as close as they were.
 //! - [`difference`]: the five undivided differences and the directional one.
 //! - [`service`]: eight slots over a buffer pool, served by round robin.
 //! - [`lists`]: demand 3 as a check of lists of calls, of this service or another.
@@ -21,6 +22,7 @@
 
 pub mod difference;
 pub mod error_code;
+pub mod extrema;
 pub mod generate;
 pub mod job_text;
 pub mod kernel;

@@ -94,8 +94,13 @@ uint32_t vokhsaot_pixel(const uint16_t *pixels, size_t pixels_len, uint32_t widt
 
 /*
  * A run of so many steps between two pictures of width times height pixels, starting in the first. Afterwards the first holds
- * the last step where steps is even, else the second does; the other holds the step before. Refusals 3, 4, 5, 6, 9, 11. The
- * shape is a covariance matrix in 1/4096 square pixel,
+ * the last step where steps is even, else the second does; the other holds the step before. Refusals 3, 4, 5, 6, 9, 11.
+ *
+ * In each step a pixel that is at least as large as each of its up to eight neighbours inside the picture does not rise, and
+ * one that is at most as large does not fall: so from the one picture to the other after the call. Two pictures of equal
+ * sides that differ by at most d at each pixel still do after runs of one shape and step count.
+ *
+ * The shape is a covariance matrix in 1/4096 square pixel,
  */
 uint32_t vokhsaot_run_matrix(int32_t xx, int32_t xy, int32_t yy, uint32_t steps, uint32_t width, uint32_t height,
                              uint16_t *first, size_t first_len, uint16_t *second, size_t second_len);

@@ -1,5 +1,5 @@
 #!/usr/bin/env python3
-"""Ten faults, one at a time, in a copy of the independent program: the comparison has to find each.
+"""Eleven faults, one at a time, in a copy of the independent program: the comparison has to find each.
 
 Usage: faults.py FOLDER, the folder that has libcapi.a. A fault counts as found where the test named beside it fails at a
 comparison, in one of the test files or in the sentences of demand 3; a fault that the copy finds in itself does not.
@@ -29,6 +29,8 @@ FAULTS = [
      "    store[target + slot.pixels().min(BUFFER_PIXELS - 1)] = 0;\n    record.slots[i].steps_left -= 1;", "service_lists"),
     ("two jobs of one number are in order", "service.rs", "        && numbers_differ\n", "        && (numbers_differ || true)\n",
      "service_lists"),
+    ("a peak need not be as large as its diagonal neighbours", "extrema.rs", "*place != (x, y)", "place.0 == x || place.1 == y",
+     "extrema"),
     ("a leading zero is taken", "job_text.rs", "[first, ..] => *first != b'0' && digits", "[_, ..] => digits", "texts"),
 ]
 

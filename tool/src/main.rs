@@ -16,6 +16,7 @@ mod replay;
 mod session;
 mod shape;
 mod smooth;
+mod steps;
 
 use args::{Arguments, Request, Syntax};
 use error::Failure;
@@ -25,8 +26,9 @@ use std::process::ExitCode;
 /// What a command does with a command line that fits its syntax.
 type Command = fn(&Arguments) -> Result<(), Failure>;
 
-const COMMANDS: [(&Syntax, Command); 6] = [
+const COMMANDS: [(&Syntax, Command); 7] = [
     (&smooth::SYNTAX, smooth::command),
+    (&steps::SYNTAX, steps::command),
     (&kernel::SYNTAX, kernel::command),
     (&difference::SYNTAX, difference::command),
     (&replay::SYNTAX, replay::command),

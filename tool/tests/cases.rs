@@ -2,10 +2,10 @@
 
 mod common;
 
-use common::{numbers, plain, Folder};
+use common::{numbers, option, plain, Folder};
 use reference::generate::{random_pixels, random_shape};
 use reference::random::Random;
-use reference::shape::{shape_kernel, Shape};
+use reference::shape::shape_kernel;
 use reference::smooth::rounded_run;
 
 /// What `kernel` prints where there is one: f, the nine weights, and the covariance of one step and of all.
@@ -165,22 +165,6 @@ fn pictures_of_the_worked_cases() {
         picture.as_bytes(),
     );
     refused.assert_failed(1, "refused (5): Steps are not 1 to 64.");
-}
-
-/// The option of a shape.
-fn option(shape: Shape) -> String {
-    match shape {
-        Shape::Matrix(c) => format!("--matrix {},{},{}", c.xx, c.xy, c.yy),
-        Shape::Round(variance) => format!("--round {variance}"),
-        Shape::Oval {
-            long,
-            short,
-            direction,
-        } => format!(
-            "--oval {long},{short},{},{}",
-            direction.cosine, direction.sine
-        ),
-    }
 }
 
 #[test]

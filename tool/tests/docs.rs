@@ -118,7 +118,7 @@ fn course_prints_what_it_shows() {
 /// The lessons of the course, each from its heading on.
 fn lessons() -> Vec<&'static str> {
     let lessons: Vec<&str> = COURSE.split("\n## ").skip(1).collect();
-    assert_eq!(lessons.len(), 9);
+    assert_eq!(lessons.len(), 10);
     lessons
 }
 
@@ -150,10 +150,17 @@ fn declares(source: &str, name: &str) -> bool {
 /// The edit of several wrong programs in a folder that has one of this label.
 fn edit_with(folder: &Path, label: &str) -> Option<PathBuf> {
     let line = format!("# {label}");
-    let edits = fs::read_dir(folder).ok()?.map(|entry| entry.unwrap().path());
+    let edits = fs::read_dir(folder)
+        .ok()?
+        .map(|entry| entry.unwrap().path());
     edits
         .filter(|edit| edit.extension().is_some_and(|ending| ending == "edit"))
-        .find(|edit| fs::read_to_string(edit).unwrap().lines().any(|one| one == line))
+        .find(|edit| {
+            fs::read_to_string(edit)
+                .unwrap()
+                .lines()
+                .any(|one| one == line)
+        })
 }
 
 /// The first of a cited path's meanings that is there: below crates/, the edit of that label, or from the root.
@@ -239,7 +246,7 @@ fn help_texts() {
         assert_eq!(help, folder.run(&format!("{command} -h"), b"").text());
         helps.push(help);
     }
-    assert_eq!(helps.len(), 7);
+    assert_eq!(helps.len(), 8);
     for help in helps {
         let (_, examples) = help.split_once("Examples:\n").expect("examples");
         assert!(!examples.is_empty());

@@ -5,6 +5,11 @@ pub mod Rounding
 pub mod Runs
 pub mod Distance
 pub mod Bounds
+pub mod Neighbours
+pub mod Greatest
+pub mod Extrema
 pub mod Sums
 pub mod Brightness
 pub mod Examples
+pub mod Peaks
+pub mod Refuted

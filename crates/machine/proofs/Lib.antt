@@ -18,5 +18,6 @@ pub mod Numbers
 pub mod Orderly
 pub mod Finds
 pub mod Eleven
+pub mod Spots
 pub mod Lines
 pub mod Worked

@@ -8,3 +8,4 @@ pub mod History
 pub mod Demand
 pub mod Numbers
 pub mod Eleven
+pub mod Spots

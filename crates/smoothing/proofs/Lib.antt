@@ -2,4 +2,5 @@
 pub mod Steps
 pub mod Runs
 pub mod Theorems
+pub mod Spots
 pub mod Cases

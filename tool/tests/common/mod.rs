@@ -1,6 +1,7 @@
 //! What the tests share: folders of their own, the tool, and the commands of netpbm.
 #![allow(dead_code)]
 
+use reference::shape::Shape;
 use std::fs;
 use std::io::Write;
 use std::path::{Path, PathBuf};
@@ -145,4 +146,20 @@ pub fn numbers(picture: &[u8]) -> Option<Vec<u32>> {
 pub fn plain(width: u32, height: u32, maxval: u16, pixels: &[u16]) -> String {
     let pixels: Vec<String> = pixels.iter().map(u16::to_string).collect();
     format!("P2\n{width} {height}\n{maxval}\n{}\n", pixels.join("\n"))
+}
+
+/// The option of a shape.
+pub fn option(shape: Shape) -> String {
+    match shape {
+        Shape::Matrix(c) => format!("--matrix {},{},{}", c.xx, c.xy, c.yy),
+        Shape::Round(variance) => format!("--round {variance}"),
+        Shape::Oval {
+            long,
+            short,
+            direction,
+        } => format!(
+            "--oval {long},{short},{},{}",
+            direction.cosine, direction.sine
+        ),
+    }
 }
