@@ -2,10 +2,10 @@
 //!
 //! It is written from document 01 (and, for [`extrema`], from document 02's
 //! S-1) alone and shares no code with the proved program, so that a mistake in
-//! one of them shows as a difference between the two. It prefers the plainest way to a result over the quickest one,
-//! and where document 01 gives both a definition and a shorter test it uses
-//! the definition (the existence of a kernel) and leaves the shorter test to
-//! the tests.
+//! one of them shows as a difference between the two. It prefers the plainest
+//! way to a result over the quickest one, and where document 01 gives both a
+//! definition and a shorter test it uses the definition (the existence of a
+//! kernel) and leaves the shorter test to the tests.
 //!
 //! - [`error_code`]: the thirteen numbered refusals and the checks several calls share.
 //! - [`kernel`]: does a kernel exist, and the nine weights of the molecule.
