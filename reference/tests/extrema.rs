@@ -66,6 +66,37 @@ fn random_sides(random: &mut Random, most: i64) -> (u32, u32) {
     ])
 }
 
+/// What one random test takes: a kernel, and two pictures that differ by at most `gap` at each pixel.
+struct Input {
+    kernel: Kernel,
+    steps: u32,
+    width: u32,
+    height: u32,
+    first: Vec<u16>,
+    other: Vec<u16>,
+    gap: u16,
+}
+
+impl Input {
+    fn pick(kernels: &Kernels, random: &mut Random, most: i64) -> Input {
+        let (kernel, steps) = kernels.pick(random);
+        let (width, height) = random_sides(random, most);
+        let first = random_heights(random, width, height);
+        let gap = random_gap(random);
+        let other = pixels_within(random, &first, gap);
+        assert!(differ_at_most(&first, &other, gap.into()));
+        Input {
+            kernel,
+            steps,
+            width,
+            height,
+            first,
+            other,
+            gap,
+        }
+    }
+}
+
 /// How often each kind of place came up at the beginning of a step.
 #[derive(Debug, Default)]
 struct Seen {
@@ -157,12 +188,15 @@ fn rounded_runs() {
     let mut random = Random::new(31);
     let mut seen = Seen::default();
     for _ in 0..12_000 {
-        let (kernel, steps) = kernels.pick(&mut random);
-        let (width, height) = random_sides(&mut random, 8);
-        let first = random_heights(&mut random, width, height);
-        let gap = random_gap(&mut random);
-        let mut other = pixels_within(&mut random, &first, gap);
-        assert!(differ_at_most(&first, &other, gap.into()));
+        let Input {
+            kernel,
+            steps,
+            width,
+            height,
+            first,
+            mut other,
+            gap,
+        } = Input::pick(&kernels, &mut random, 8);
         let mut picture = first.clone();
         for done in 0..steps {
             let next = step(&kernel, &picture, width, height);
@@ -189,13 +223,11 @@ fn exact_runs() {
     let mut random = Random::new(32);
     let mut seen = Seen::default();
     for _ in 0..3000 {
-        let (kernel, steps) = kernels.pick(&mut random);
-        let (width, height) = random_sides(&mut random, 5);
-        let first = random_heights(&mut random, width, height);
-        let gap = random_gap(&mut random);
-        let other = pixels_within(&mut random, &first, gap);
-        let (mut picture, mut other) = (exact_start(&first), exact_start(&other));
-        for done in 0..steps {
+        let input = Input::pick(&kernels, &mut random, 5);
+        let (kernel, width, height, gap) = (input.kernel, input.width, input.height, input.gap);
+        let first = input.first;
+        let (mut picture, mut other) = (exact_start(&first), exact_start(&input.other));
+        for done in 0..input.steps {
             let next = exact_step(&kernel, &picture, width, height);
             other = exact_step(&kernel, &other, width, height);
             let before = over_next_scale(&picture, kernel.sum);
@@ -300,15 +332,12 @@ impl Step {
         let mut random = Random::new(33);
         let mut broken = [0; 3];
         for _ in 0..4000 {
-            let (kernel, _) = kernels.pick(&mut random);
-            let (width, height) = random_sides(&mut random, 5);
-            let pixels = random_heights(&mut random, width, height);
-            let gap = random_gap(&mut random);
-            let other = pixels_within(&mut random, &pixels, gap);
-            let [picture, other] = [pixels, other]
+            let input = Input::pick(&kernels, &mut random, 5);
+            let (width, height, gap) = (input.width, input.height, input.gap);
+            let [picture, other] = [input.first, input.other]
                 .map(|pixels| pixels.into_iter().map(u64::from).collect::<Vec<u64>>());
             let [next, other] =
-                [&picture, &other].map(|picture| self.of(&kernel, picture, width, height));
+                [&picture, &other].map(|picture| self.of(&input.kernel, picture, width, height));
             let enhances = enhanced(&picture, &next, width, height).is_some();
             broken[0] += u32::from(enhances);
             broken[1] += u32::from(!differ_at_most(&next, &other, gap.into()));

@@ -97,8 +97,8 @@ uint32_t vokhsaot_pixel(const uint16_t *pixels, size_t pixels_len, uint32_t widt
  * the last step where steps is even, else the second does; the other holds the step before. Refusals 3, 4, 5, 6, 9, 11.
  *
  * In each step a pixel that is at least as large as each of its up to eight neighbours inside the picture does not rise, and
- * one that is at most as large does not fall: so from the one picture to the other after the call. Two pictures of equal
- * sides that differ by at most d at each pixel still do after runs of one shape and step count.
+ * one that is at most as large does not fall; after the call the two pictures are the last step's, before and after it. Two
+ * pictures of equal sides that differ by at most d at each pixel still do after runs of one shape and step count.
  *
  * The shape is a covariance matrix in 1/4096 square pixel,
  */

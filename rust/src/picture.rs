@@ -42,8 +42,8 @@ pub fn pixel(pixels: &[u16], width: u32, height: u32, column: i32, row: i32) -> 
 /// other holds the step before. Refusals 3, 4, 5, 6, 9 and 11.
 ///
 /// In each step a pixel that is at least as large as each of its up to eight neighbours inside the picture does not rise, and
-/// one that is at most as large does not fall: so from the one picture to the other after the call. Two pictures of equal
-/// sides that differ by at most d at each pixel still do after runs of one shape and step count.
+/// one that is at most as large does not fall; after the call the two pictures are the last step's, before and after it. Two
+/// pictures of equal sides that differ by at most d at each pixel still do after runs of one shape and step count.
 pub fn run(
     shape: Shape,
     steps: u32,

@@ -1,5 +1,6 @@
--- Each sentence of S-1 can fail: of a kernel that weighs one more or one less than what a step divides by, and of a step that wraps round
--- at the border, it says what is false of numbers. Computed. Assumes nothing.
+-- Each sentence of S-1 can fail: of a kernel that weighs one more or one less than what a step divides by, of a step that wraps round at
+-- the border or goes above a whole average, and of halves that go to the even number, it says what is false of numbers. Computed. Assumes
+-- nothing.
 use mathlib.Core.Path.{refl}
 use mathlib.Core.List.{[], _∷_}
 use Prim.Native.Nat.{ℕ, zero, suc, _+_, _≤_, _<_}
@@ -52,7 +53,7 @@ lighter claim = (
   claim .exact-within (1 ∷ []) refl 0 1 .least-never-falls,
 )
 
--- ---- wrapped round: half of each pixel beside, the row's other end at its ends. 3 is as large as its neighbour 0 and becomes 5; 6 is at
+-- ---- wrapped round: half of each pixel beside, the row's other end at its ends. 3 is at least as large as its neighbour 0 and becomes 5; 6 is at
 -- most as large as 9 and becomes 5; and so in a column
 pub wrapped : NonEnhancement 1 3 1 (3 ∷ 0 ∷ 9 ∷ []) (5 ∷ 6 ∷ 2 ∷ []) → NonEnhancement 1 3 1 (6 ∷ 9 ∷ 0 ∷ []) (5 ∷ 3 ∷ 8 ∷ [])
     → NonEnhancement 1 1 3 (9 ∷ 0 ∷ 3 ∷ []) (2 ∷ 6 ∷ 5 ∷ []) → NonEnhancement 1 1 3 (0 ∷ 9 ∷ 6 ∷ []) (8 ∷ 3 ∷ 5 ∷ [])
@@ -64,3 +65,12 @@ wrapped rises falls bottom-rises bottom-falls = (
   bottom-rises .no-rise 0 2 (omega arith) (omega arith) refl,
   bottom-falls .no-fall 0 2 (omega arith) (omega arith) refl,
 )
+
+-- ---- above the average: a single pixel, which is its own average, becomes one more
+pub brighter : NonEnhancement 1 1 1 (7 ∷ []) (8 ∷ []) → 8 ≤ 7
+unfolding pixelAt neighbours eachNeighbour
+brighter claim = claim .no-rise 0 0 (omega arith) (omega arith) refl
+
+-- ---- halves to even: of the rows 0 1 and 1 2, which differ by 1, half of each pixel beside is 1/2 and 3/2 everywhere, and becomes 0 and 2
+pub to-even : Entrywise (Differ 1) (0 ∷ 0 ∷ []) (2 ∷ 2 ∷ []) → 2 ≤ 1
+to-even claim = claim .each 0 (omega arith) .below
