@@ -23,7 +23,7 @@ THEOREMS = [
     ("averaging", "brightness"), ("averaging", "BrightSpots"), ("covariance", "WithinHalfUnit"), ("covariance", "alongX"), ("covariance", "alongY"),
     ("covariance", "covarianceNumber"), ("covariance", "covarianceValues"), ("differences", "CloseTo"),
     ("differences", "unitsPerStep"), ("differences", "IsWhole"), ("differences", "turnedBy"), ("job_printer", "GreatestDivisor"),
-    ("job_parser", "IsText"), ("machine", "Demand3"), ("machine", "Demand3InNumbers"), ("machine", "CallsInNumbers"),
+    ("job_parser", "IsText"), ("machine", "Demand3"), ("machine", "Workable"), ("machine", "Demand3InNumbers"), ("machine", "CallsInNumbers"),
     ("machine", "ElevenExactly"), ("machine", "TickEnhancesNone"), ("machine", "Collected"), ("machine", "jobCollected"),
     ("machine", "pictureCollected"), ("word_calls", "ExportedDemand3"),
 ]

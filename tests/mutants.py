@@ -117,7 +117,7 @@ def pieces_of(tokens):
             parameters = typed(tokens, at + 1, end)
             i = end + 1
             while i < len(tokens) and tokens[i].text not in ("{", ";"):
-                i += 1
+                i = closing(tokens, i) + 1 if tokens[i].text == "[" else i + 1  # an array's length comes after a semicolon
                 if tokens[i - 1].text in ("requires", "ensures") and tokens[i].text == "{":
                     i = closing(tokens, i) + 1
             if i < len(tokens) and tokens[i].text == "{":
@@ -379,9 +379,14 @@ fn kind(b: Box, least: u32) -> Kind
     if !small(a) { return Kind::Tall; }
     if a < MOST { Kind::Flat } else { Kind::Tall }
 }
+fn pair(least: u32) -> [u32; 2]
+    ensures { λ r }
+{
+    [least; 3]
+}
 """
 WANTED = {
-    "number: 8 -> 9", "number: 8 -> 7", "operator: * -> +", "operand: wide -> high", "operand: high -> wide", "field: wide -> high",
+    "number: 8 -> 9", "number: 8 -> 7", "number: 3 -> 4", "number: 3 -> 2", "operator: * -> +", "operand: wide -> high", "operand: high -> wide", "field: wide -> high",
     "field: high -> wide", "exchanged: b.wide, b.high -> b.high, b.wide", "operator: += -> -=",
     "left out: a += least; -> (nothing)", "test: ! -> (nothing)", "value: Tall -> Flat", "value: Flat -> Tall", "comparison: < -> <=",
 }

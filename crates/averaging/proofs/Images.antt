@@ -1,14 +1,15 @@
--- Images by their entries: how many an image has, which stands at a column and a row, and that an image is given by its
--- entries. Over any type of entries: pixels, signed differences, floats. Assumes nothing.
+-- Images by their entries: how many an image has, which stands at a column and a row, that an image is given by its entries, and
+-- lists that a loop fills entry by entry. Over any type of entries: pixels, signed differences, floats, slots. Assumes nothing.
 use mathlib.Core.Path.{_≡_, refl, sym, ap, ap₂, subst, _∙_}
 use mathlib.Core.Logic.{_⊎_, inl, inr}
 use mathlib.Core.List.{List, [], _∷_, _++_}
 use Prim.Native.Nat.{ℕ, zero, suc, _+_, _*_, _/_, _%_, _≤_, _<_}
 use native.Mathlib.Nat.{mul-one, mul-comm, mul-le-mul-right, le-of-suc-le-suc, not-suc-le-zero, eq-or-lt-of-le}
 use native.Mathlib.Nat.{div-add-mod', div-lt-iff-lt-mul, mod-lt}
+use native.Mathlib.Numerals.{add-one}
 use native.Mathlib.Omega.{arith}
-use lib.ListN.{length, getD, length-append, List·getD-append}
-use lib.Seq.{getD-append-add, ext-getD}
+use lib.ListN.{length, getD, set, take, length-append, length-set, List·getD-append}
+use lib.Seq.{getD-append-add, ext-getD, take-suc-set, take-all}
 use lib.IntN.{ℤ, pos, negsuc}
 use Rattle.image.specs.Image.{nearestPlace, entries, rows, imageOf}
 
@@ -69,6 +70,45 @@ module _ {A : Type 0} where
   entry n f d i l =
       ap₂ (λ es k. getD es k d) (as-rows n f) (omega arith) ∙ row-entry n 1 (λ i. f i ∷ []) d (λ i. refl) 0 i (omega arith) l
 
+  -- entries that agree below n
+  pub same-entries : (n : ℕ) (f g : ℕ → A) → ((i : ℕ) → i < n → f i ≡ g i) → entries n f ≡ entries n g
+  unfolding entries
+  same-entries zero f g same = refl
+  same-entries (suc n) f g same = ap₂ (λ l v. l ++ (v ∷ [])) (same-entries n f g (λ i l. same i (omega arith))) (same n (omega arith))
+
+  -- a list of n is its entries
+  pub own-entries : (n : ℕ) (d : A) (l : List A) → length l ≡ n → l ≡ entries n (λ i. getD l i d)
+  own-entries n d l e =
+      ext-getD d l (entries n (λ i. getD l i d)) (e ∙ sym (length-entries n (λ i. getD l i d)))
+      (λ i h. sym (entry n (λ i. getD l i d) d i (omega (arith, e, h))))
+
+  -- ---- lists of n that are filled from the front, entry by entry: the invariant of such a loop
+  pub record Filled (n : ℕ) (f : ℕ → A) (o : List A) (i : ℕ) : Type 0 where
+    pub passed : i ≤ n
+    pub long : length o ≡ n
+    pub done : take i o ≡ entries i f
+
+  pub filled-none : (n : ℕ) (f : ℕ → A) (o : List A) → length o ≡ n → Filled n f o 0
+  unfolding entries
+  filled-none n f o l = record { passed = omega arith; long = l; done = refl }
+
+  pub filled-more : (n : ℕ) (f : ℕ → A) (o : List A) (i : ℕ) {v : A} → Filled n f o i → i < n → v ≡ f i → Filled n f (set o i v) (i + 1)
+  unfolding entries
+  filled-more n f o i {v} w h e =
+      let g : i < length o = omega (arith, w .long) in
+      record { passed = omega arith; long = length-set o i v ∙ w .long; done = rw (add-one i, take-suc-set o i v g, w .done, e) }
+
+  pub filled-all : (n : ℕ) (f : ℕ → A) (o : List A) (i : ℕ) → Filled n f o i → n ≤ i → o ≡ entries n f
+  filled-all n f o i w h =
+      let e : i ≡ n = omega (arith, w .passed) in
+      sym (take-all i o (omega (arith, w .long))) ∙ w .done ∙ ap (λ (i : ℕ). entries i f) e
+
+  -- with the entries of a list that is as long it becomes that list
+  pub filled-copy : (d : A) (source o : List A) (i : ℕ) → Filled (length source) (λ k. getD source k d) o i → length source ≤ i → o ≡ source
+  filled-copy d source o i w h =
+      filled-all (length source) (λ k. getD source k d) o i w h ∙ sym (own-entries (length source) d source refl)
+
+  -- ---- images
   -- an image has h rows of w entries, so w × h entries
   pub length-by-rows : (w h : ℕ) (f : ℕ → ℕ → A) → length (imageOf w h f) ≡ h * w
   length-by-rows w h f = length-rows h w (λ y. entries w (λ x. f x y)) (λ y. length-entries w (λ x. f x y))

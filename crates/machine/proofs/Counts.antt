@@ -2,14 +2,11 @@
 use mathlib.Core.Path.{_≡_, refl}
 use mathlib.Core.Bool.{Bool, true, false, not, cond}
 use mathlib.Core.List.{List}
-use Prim.Native.Nat.{ℕ, zero, suc, _+_, _-_, _*_, _≤_, _<_}
+use Prim.Native.Nat.{ℕ, zero, suc, _+_, _≤_, _<_}
 use native.Mathlib.Omega.{arith}
-use borrow.Author.Tests.{le-leb, lt-leb, ltb-true, ltb-false}
-use lib.Dec.{leb, ltb}
 use lib.ListN.{getD}
 use Rattle.machine.specs.declared.Slot.{Slot}
-use Rattle.machine.specs.Slots.{slotCount, emptySlot, isEmpty, countOf}
-use Rattle.machine.specs.Store.{bufferCount, buffersPerSlot}
+use Rattle.machine.specs.Slots.{emptySlot, isEmpty, countOf}
 
 pub count-le : (test : Slot → Bool) (xs : List Slot) (n : ℕ) → countOf test xs n ≤ n
 unfolding countOf
@@ -32,11 +29,3 @@ some-empty xs (suc n) h = go (isEmpty (getD xs n emptySlot)) refl h (some-empty 
         → (i : ℕ) × (i < suc n) × (isEmpty (getD xs i emptySlot) ≡ true)
     go true e h f = (n, omega arith, e)
     go false e h f = let w = f (omega arith) in (w .0, omega (arith, w .1), w .2)
-
--- two buffers are free exactly where a slot is
-pub free-test : (held : ℕ) → held ≤ slotCount → leb buffersPerSlot (bufferCount - buffersPerSlot * held) ≡ ltb held slotCount
-free-test held h = go (ltb held slotCount) refl
-  where
-    go : (t : Bool) → ltb held slotCount ≡ t → leb buffersPerSlot (bufferCount - buffersPerSlot * held) ≡ t
-    go true e = let l = ltb-true held slotCount e in le-leb buffersPerSlot (bufferCount - buffersPerSlot * held) (omega arith)
-    go false e = let l = ltb-false held slotCount e in lt-leb buffersPerSlot (bufferCount - buffersPerSlot * held) (omega arith)

@@ -21,14 +21,15 @@ use Rattle.covariance.specs.Shapes.{shapeHasKernel}
 use Rattle.covariance.proofs.Refusals.{shape-refused-exactly}
 use Rattle.machine.specs.declared.Service.{Service}
 use Rattle.machine.specs.declared.Answer.the-variants.{Refused}
-use Rattle.machine.specs.Slots.{slotCount}
+use Rattle.machine.specs.Rules.{Rules}
+use Rattle.machine.specs.Store.{Workable}
 use Rattle.machine.specs.Order.{usable}
 use Rattle.machine.specs.Calls.{lastNumber, roomChecks, submitChecks}
 use Rattle.machine.specs.History.{Event, opened, after, jobCount, heldCount}
 use Rattle.machine.specs.Demand.{numberUnless, submitOutcome}
 use Rattle.machine.specs.Eleven.{earlierChecks, OnlyNoKernel, ElevenExactly}
 use Rattle.machine.proofs.Finds.{submit-answers}
-use Rattle.machine.proofs.Theorem.{demand-3}
+use Rattle.machine.proofs.Theorem.{demand-3-by}
 
 -- ---- one check of a list
 -- no check of a list answers this code
@@ -87,21 +88,21 @@ module _ (shape : Shape) (k w h : ℕ) (pixels : List ℕ) where
   )
 
   -- the words of demand 3
-  outcome-eleven : (es : List Event) → (submitOutcome es shape k w h pixels ≡ O.Refused NoKernel) ↔ OnlyNoKernel shape k w h pixels
-  outcome-eleven es =
-      let seats = ltb (heldCount es) slotCount otherwise NoFreeBuffers in
+  outcome-eleven : (rules : Rules) (es : List Event) → (submitOutcome rules es shape k w h pixels ≡ O.Refused NoKernel) ↔ OnlyNoKernel shape k w h pixels
+  outcome-eleven rules es =
+      let seats = ltb (heldCount es) (rules .slotCount) otherwise NoFreeBuffers in
       let room = seats ∷ (ltb (jobCount es) lastNumber otherwise NumbersUsedUp) ∷ [] in
       let w = answered-at NoKernel (earlierChecks shape k w h pixels) room (shapeHasKernel shape k) refl refl in
       (λ e. wide .0 (w .0 e), λ o. w .1 (wide .1 o))
 
   -- the call's checks
-  checks-eleven : (r : Service) (store : List ℕ)
-      → (submitChecks r store shape k w h pixels ≡ O.Refused NoKernel) ↔ ((usable r store ≡ true) × OnlyNoKernel shape k w h pixels)
+  checks-eleven : (rules : Rules) (r : Service) (store : List ℕ)
+      → (submitChecks rules r store shape k w h pixels ≡ O.Refused NoKernel) ↔ ((usable rules r store ≡ true) × OnlyNoKernel shape k w h pixels)
   unfolding submitChecks
-  checks-eleven r store =
-      let check = usable r store otherwise RecordOutOfOrder in
+  checks-eleven rules r store =
+      let check = usable rules r store otherwise RecordOutOfOrder in
       let early = earlierChecks shape k w h pixels in
-      let at = answered-at NoKernel (check ∷ early) (roomChecks r) (shapeHasKernel shape k) refl refl in
+      let at = answered-at NoKernel (check ∷ early) (roomChecks rules r) (shapeHasKernel shape k) refl refl in
       let both = first-and-rest check early in (
         λ e. let a = at .0 e in let b = both .0 (a .0) in (b .0, wide .0 (b .1, a .1)),
         λ o. let a = wide .1 (o .1) in at .1 (both .1 (o .0, a .0), a .1),
@@ -115,21 +116,22 @@ unless-refused O.Accepted n code = (
 )
 unless-refused (O.Refused other) n code = (λ e. cc, λ e. cc)
 
-pub eleven-exactly : ElevenExactly
-eleven-exactly =
+pub eleven-exactly : (rules : Rules) → Workable rules → ElevenExactly rules
+eleven-exactly rules workable =
     record {
       called = λ r store shape k w h pixels. (
-          let o = submitChecks r store shape k w h pixels in
-          let a = submit-answers r store shape k w h pixels in
+          let o = submitChecks rules r store shape k w h pixels in
+          let a = submit-answers rules workable r store shape k w h pixels in
           let u = unless-refused o (r .last + 1) NoKernel in
-          let c = checks-eleven shape k w h pixels r store in
+          let c = checks-eleven shape k w h pixels rules r store in
           (λ e. c .0 (u .0 (sym a ∙ e)), λ e. a ∙ u .1 (c .1 e))
           );
       listed = λ store long calls shape k w h pixels. (
-          let es = after (opened store) calls .history in
-          let a = demand-3 store long calls .submit-answer shape k w h pixels in
-          let u = unless-refused (submitOutcome es shape k w h pixels) (jobCount es + 1) NoKernel in
-          let c = outcome-eleven shape k w h pixels es in
+          let p = after (opened rules store) calls in
+          let es = p .history in
+          let a = demand-3-by rules workable store long calls .submit-answer shape k w h pixels in
+          let u = unless-refused (submitOutcome (p .rules) es shape k w h pixels) (jobCount es + 1) NoKernel in
+          let c = outcome-eleven shape k w h pixels (p .rules) es in
           (λ e. c .0 (u .0 (sym a ∙ e)), λ e. a ∙ u .1 (c .1 e))
           );
     }

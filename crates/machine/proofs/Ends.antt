@@ -21,7 +21,7 @@ use Rattle.machine.specs.declared.Answer.{Answer}
 use Rattle.machine.specs.declared.Answer.the-variants.{Job, Refused}
 use Rattle.machine.specs.declared.Found.{Found}
 use Rattle.machine.specs.declared.Found.the-variants.{At, Nothing}
-use Rattle.machine.specs.Slots.{slotCount, emptySlot, slotAt, isEmpty, hasNumber, firstFrom}
+use Rattle.machine.specs.Slots.{emptySlot, slotAt, isEmpty, hasNumber, firstFrom}
 use Rattle.machine.specs.Store.{part, bufferAfter, currentImage}
 use Rattle.machine.specs.Calls.{Call, collect, withdraw, Result, callOf, placeOf, emptied, collectChecks, collectOf, withdrawOf}
 use Rattle.machine.specs.History.{Event, Place, accepts, startsBy, servesBy, endsBy, Submitted, aloneAfter, jobOf, held, ticksOf, stepsLeft, givenBy, numbers, jobCount, heldCount}
@@ -29,7 +29,7 @@ use Rattle.machine.specs.Demand.{numberUnless, withdrawAnswer, collectAn
 use Rattle.machine.proofs.Search.{distance, hit, found}
 use Rattle.machine.proofs.Words.{Untouched, same-held, ended-held, many-less}
 use Rattle.limits.proofs.Checks.{AllHold, all-hold}
-use Rattle.machine.proofs.Invariant.{Invariant, Sits, Change, changed, in-order, is-usable}
+use Rattle.machine.proofs.Invariant.{Invariant, size, Sits, Change, changed, in-order, is-usable}
 use Rattle.machine.proofs.Served.{Served, sets, refused-call}
 
 -- a call that ends the job with a number where it is accepted: a collect or a withdraw
@@ -62,24 +62,24 @@ collect-ends n lent =
 
 module _ (p : Place) (v : Invariant p) where
   -- ---- where a job sits
-  sits-with : (n i : ℕ) → 0 < n → i < slotCount → slotAt (p .service) i .number ≡ n → Sits (p .history) (p .store) i n (slotAt (p .service) i)
+  sits-with : (n i : ℕ) → 0 < n → i < size p → slotAt (p .service) i .number ≡ n → Sits (p .rules) (p .history) (p .store) i n (slotAt (p .service) i)
   sits-with n i g h e =
       ⊎-elim
       (λ z. absurd (let q = sym e ∙ ap (λ (s : Slot). s .number) z in omega arith))
-      (λ z. let q : z .0 ≡ n = sym (ap (λ (s : Slot). s .number) (z .1 .is)) ∙ e in subst (λ m. Sits (p .history) (p .store) i m (slotAt (p .service) i)) q (z .1))
+      (λ z. let q : z .0 ≡ n = sym (ap (λ (s : Slot). s .number) (z .1 .is)) ∙ e in subst (λ m. Sits (p .rules) (p .history) (p .store) i m (slotAt (p .service) i)) q (z .1))
       (v .taken i h)
 
   pub record Seated (n : ℕ) : Type 0 where
     pub at : ℕ
-    pub below : at < slotCount
-    pub is : placeOf (p .service) n ≡ At at
-    pub sits : Sits (p .history) (p .store) at n (slotAt (p .service) at)
+    pub below : at < size p
+    pub is : placeOf (p .rules) (p .service) n ≡ At at
+    pub sits : Sits (p .rules) (p .history) (p .store) at n (slotAt (p .service) at)
 
   pub seated : (n : ℕ) → held (p .history) n ≡ true → Seated n
   seated n h =
       let w = v .placed n h in
-      let d = distance slotCount 0 (w .0) (omega arith) (w .1) in
-      let g = hit (hasNumber n) (p .service .slots) slotCount (w .0) (eq-eqb _ _ (w .2)) (w .1) slotCount 0 (d .0) (omega arith) (d .1) (d .2) (omega arith) in
+      let d = distance (size p) 0 (w .0) (v .workable .some-slot) (w .1) in
+      let g = hit (hasNumber n) (p .service .slots) (size p) (w .0) (eq-eqb _ _ (w .2)) (w .1) (size p) 0 (d .0) (v .workable .some-slot) (d .1) (d .2) (omega arith) in
       record {
         at = g .at;
         below = g .below;
@@ -87,23 +87,23 @@ module _ (p : Place) (v : Invariant p) where
         sits = sits-with n (g .at) (w .3) (g .below) (eqb-true _ _ (g .passes));
       }
 
-  pub unseated : (n : ℕ) → held (p .history) n ≡ false → placeOf (p .service) n ≡ Nothing
+  pub unseated : (n : ℕ) → held (p .history) n ≡ false → placeOf (p .rules) (p .service) n ≡ Nothing
   unseated n h = zero-or (eqb n 0) refl
     where
-      go : (f : Found) → firstFrom (hasNumber n) (p .service .slots) slotCount 0 slotCount ≡ f → (n ≡ 0 → ⊥) → f ≡ Nothing
+      go : (f : Found) → firstFrom (hasNumber n) (p .service .slots) (size p) 0 (size p) ≡ f → (n ≡ 0 → ⊥) → f ≡ Nothing
       go Nothing e ne = refl
       go (At i) e ne =
-          let w = found (hasNumber n) (p .service .slots) slotCount (omega arith) slotCount 0 i (omega arith) e in
+          let w = found (hasNumber n) (p .service .slots) (size p) (v .workable .some-slot) (size p) 0 i (v .workable .some-slot) e in
           let s = sits-with n i (omega arith) (w .0) (eqb-true _ _ (w .1)) in
           absurd (true≢false (sym (s .is-held) ∙ h))
 
-      zero-or : (t : Bool) → eqb n 0 ≡ t → cond t Nothing (firstFrom (hasNumber n) (p .service .slots) slotCount 0 slotCount) ≡ Nothing
+      zero-or : (t : Bool) → eqb n 0 ≡ t → cond t Nothing (firstFrom (hasNumber n) (p .service .slots) (size p) 0 (size p)) ≡ Nothing
       zero-or true e = refl
-      zero-or false e = go (firstFrom (hasNumber n) (p .service .slots) slotCount 0 slotCount) refl (eqb-false n 0 e)
+      zero-or false e = go (firstFrom (hasNumber n) (p .service .slots) (size p) 0 (size p)) refl (eqb-false n 0 e)
 
   -- ---- the job is ended
-  module _ (c : Call) (n i : ℕ) (lent : List ℕ) (ending : Ending c n) (at : i < slotCount) (s : Sits (p .history) (p .store) i n (slotAt (p .service) i))
-      (result : callOf (p .service) (p .store) c ≡ record { answer = Job n; service = emptied (p .service) i; store = p .store; lent = lent }) where
+  module _ (c : Call) (n i : ℕ) (lent : List ℕ) (ending : Ending c n) (at : i < size p) (s : Sits (p .rules) (p .history) (p .store) i n (slotAt (p .service) i))
+      (result : callOf (p .rules) (p .service) (p .store) c ≡ record { answer = Job n; service = emptied (p .service) i; store = p .store; lent = lent }) where
     abbrev event : Event
     event = record { call = c; answer = Job n; lent = lent }
 
@@ -188,13 +188,13 @@ module _ (p : Place) (v : Invariant p) where
     abbrev checks : Outcome
     checks = firstRefusal tests
 
-    checks-are : (t : Bool) → held (p .history) n ≡ t → collectChecks (p .service) (p .store) n lent ≡ checks
+    checks-are : (t : Bool) → held (p .history) n ≡ t → collectChecks (p .rules) (p .service) (p .store) n lent ≡ checks
     unfolding collectChecks
     checks-are true h = let w = seated n h in rw (is-usable p v, w .is, h, w .sits .is, not-left (stepsLeft (p .history) n))
     checks-are false h = rw (is-usable p v, unseated n h, h)
 
     refused : (code : ErrorCode) → checks ≡ O.Refused code
-        → collectOf (p .service) (p .store) n lent ≡ record { answer = Refused code; service = p .service; store = p .store; lent = lent }
+        → collectOf (p .rules) (p .service) (p .store) n lent ≡ record { answer = Refused code; service = p .service; store = p .store; lent = lent }
     unfolding collectOf
     refused code e = rw (checks-are (held (p .history) n) refl, e)
 
@@ -208,13 +208,13 @@ module _ (p : Place) (v : Invariant p) where
       all-done : ticksOf (p .history) n ≡ job .steps
       all-done = let e = eqb-true (stepsLeft (p .history) n) 0 (all .1 .0) in omega (arith, seat .sits .few)
 
-      handed : currentImage (p .store) (seat .at) (slotAt (p .service) (seat .at)) ≡ aloneAfter job (job .steps)
+      handed : currentImage (p .rules) (p .store) (seat .at) (slotAt (p .service) (seat .at)) ≡ aloneAfter job (job .steps)
       handed =
           rw (seat .sits .is)
-          (ap (λ d. part (bufferAfter (seat .at) d) (job .width * job .height) (p .store)) (let y : job .steps - (job .steps - ticksOf (p .history) n) ≡ ticksOf (p .history) n = omega (arith, seat .sits .few) in y)
+          (ap (λ d. part (bufferAfter (p .rules) (seat .at) d) (job .width * job .height) (p .store)) (let y : job .steps - (job .steps - ticksOf (p .history) n) ≡ ticksOf (p .history) n = omega (arith, seat .sits .few) in y)
           ∙ seat .sits .image ∙ ap (aloneAfter job) all-done)
 
-      result : collectOf (p .service) (p .store) n lent
+      result : collectOf (p .rules) (p .service) (p .store) n lent
           ≡ record { answer = Job n; service = emptied (p .service) (seat .at); store = p .store; lent = aloneAfter job (job .steps) }
       unfolding collectOf
       result = rw (checks-are (held (p .history) n) refl, fine, seat .is, handed)

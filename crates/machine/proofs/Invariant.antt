@@ -1,6 +1,6 @@
 -- What holds at every place of a list: each slot is empty, or sits with one held job, whose picture after so many steps of its
--- own kernel stands in the slot's buffer; each held job sits in one slot. It is said job by job, so that it carries over a
--- change of the record. Assumes nothing.
+-- own kernel stands in the slot's buffer; each held job sits in one slot. It is said job by job and for
+-- any rules, so that it carries over a change of the record and of the rules. Assumes nothing.
 use mathlib.Core.Path.{_≡_, refl, sym, _∙_, ap}
 use mathlib.Core.Bool.{Bool, true, false, not, true≢false}
 use mathlib.Core.Logic.{_⊎_, inl, inr, ⊎-elim}
@@ -17,13 +17,15 @@ use Rattle.kernel.specs.Molecule.{unitsOf}
 use Rattle.kernel.specs.Existence.{kernelExists}
 use Rattle.covariance.specs.Shapes.{variancesFine, directionFine, covarianceXX, covarianceXY, covarianceYY}
 use Rattle.machine.specs.declared.Slot.{Slot}
-use Rattle.machine.specs.Slots.{slotCount, emptySlot, slotAt, isEmpty, hasNumber, countOf, everySlot}
-use Rattle.machine.specs.Store.{buffersPerSlot, storeLength, part, bufferAfter}
+use Rattle.machine.specs.Rules.{Rules}
+use Rattle.machine.specs.Slots.{emptySlot, slotAt, isEmpty, hasNumber, countOf, everySlot}
+use Rattle.machine.specs.Store.{storeLength, Workable, part, bufferAfter}
 use Rattle.machine.specs.Order.{allZero, filledFine, slotFine, inOrder, usable}
 use Rattle.machine.specs.Calls.{Call}
 use Rattle.machine.specs.History.{Event, Place, next, eventOf, Submitted, aloneAfter, jobOf, held, ticksOf, stepsLeft, numbers, jobCount, heldCount}
 use Rattle.machine.specs.Demand.{countdown}
 use Rattle.machine.proofs.Search.{one, count-set}
+use Rattle.machine.proofs.Rules.{block, within-block, from-block}
 use Rattle.machine.proofs.Words.{Untouched, same-held, same-job, same-ticks}
 
 -- what the checks of a submit leave of a job
@@ -51,31 +53,36 @@ slotOf n j left =
     }
 
 -- slot i sits with the job of this number
-pub record Sits (es : List Event) (store : List ℕ) (i n : ℕ) (s : Slot) : Type 0 where
+pub record Sits (rules : Rules) (es : List Event) (store : List ℕ) (i n : ℕ) (s : Slot) : Type 0 where
   pub positive : 0 < n
   pub known : n ≤ jobCount es
   pub is-held : held es n ≡ true
   pub is : s ≡ slotOf n (jobOf es n) (stepsLeft es n)
   pub few : ticksOf es n ≤ jobOf es n .steps
   pub fine : JobFine (jobOf es n)
-  pub image : part (bufferAfter i (ticksOf es n)) (jobOf es n .width * jobOf es n .height) store ≡ aloneAfter (jobOf es n) (ticksOf es n)
+  pub image : part (bufferAfter rules i (ticksOf es n)) (jobOf es n .width * jobOf es n .height) store ≡ aloneAfter (jobOf es n) (ticksOf es n)
 
 -- a slot is empty, or sits with a job
-abbrev pub Taken : List Event → List ℕ → ℕ → Slot → Type 0
-Taken es store i s = (s ≡ emptySlot) ⊎ ((n : ℕ) × Sits es store i n s)
+abbrev pub Taken : Rules → List Event → List ℕ → ℕ → Slot → Type 0
+Taken rules es store i s = (s ≡ emptySlot) ⊎ ((n : ℕ) × Sits rules es store i n s)
+
+-- how many slots there are at a place
+abbrev pub size : Place → ℕ
+size p = p .rules .slotCount
 
 pub record Invariant (p : Place) : Type 0 where
-  pub eight : length (p .service .slots) ≡ slotCount
+  pub workable : Workable (p .rules)
+  pub as-many : length (p .service .slots) ≡ size p
   pub long : length (p .store) ≡ storeLength
-  pub filled : p .service .filled < slotCount
-  pub served : p .service .served < slotCount
+  pub filled : p .service .filled < size p
+  pub served : p .service .served < size p
   pub last : p .service .last ≡ jobCount (p .history)
   pub given : numbers (p .history) ≡ countdown (jobCount (p .history))
-  pub taken : (i : ℕ) → i < slotCount → Taken (p .history) (p .store) i (slotAt (p .service) i)
-  pub placed : (n : ℕ) → held (p .history) n ≡ true → (i : ℕ) × (i < slotCount) × (slotAt (p .service) i .number ≡ n) × (0 < n)
-  pub once : (i j : ℕ) → i < slotCount → j < slotCount → 0 < slotAt (p .service) i .number
+  pub taken : (i : ℕ) → i < size p → Taken (p .rules) (p .history) (p .store) i (slotAt (p .service) i)
+  pub placed : (n : ℕ) → held (p .history) n ≡ true → (i : ℕ) × (i < size p) × (slotAt (p .service) i .number ≡ n) × (0 < n)
+  pub once : (i j : ℕ) → i < size p → j < size p → 0 < slotAt (p .service) i .number
       → slotAt (p .service) i .number ≡ slotAt (p .service) j .number → i ≡ j
-  pub counted : countOf (λ s. not (isEmpty s)) (p .service .slots) slotCount ≡ heldCount (p .history)
+  pub counted : countOf (λ s. not (isEmpty s)) (p .service .slots) (size p) ≡ heldCount (p .history)
 
 -- ---- a record with the invariant is in order
 count-none : (test : Slot → Bool) (xs : List Slot) (n : ℕ) → ((i : ℕ) → i < n → test (getD xs i emptySlot) ≡ false) → countOf test xs n ≡ 0
@@ -98,27 +105,27 @@ at-set P xs m v h new i old = go (eqb i m) refl
     go false e = let w = eqb-false i m e in rw (getD-set-other xs m i v emptySlot w) (old w)
 
 module _ (p : Place) (v : Invariant p) where
-  alone : (i n : ℕ) → i < slotCount → Sits (p .history) (p .store) i n (slotAt (p .service) i)
-      → countOf (hasNumber n) (p .service .slots) slotCount ≡ 1
+  alone : (i n : ℕ) → i < size p → Sits (p .rules) (p .history) (p .store) i n (slotAt (p .service) i)
+      → countOf (hasNumber n) (p .service .slots) (size p) ≡ 1
   alone i n h s =
       let xs = p .service .slots in
-      let l : i < length xs = omega (arith, v .eight) in
+      let l : i < length xs = omega (arith, v .as-many) in
       let number : slotAt (p .service) i .number ≡ n = ap (λ x. x .number) (s .is) in
-      let none : countOf (hasNumber n) (set xs i emptySlot) slotCount ≡ 0
-      = count-none (hasNumber n) (set xs i emptySlot) slotCount
-      (λ j g. at-set (λ j x. j < slotCount → hasNumber n x ≡ false) xs i emptySlot l (λ k. ne-eqb 0 n (λ x. omega (arith, s .positive))) j
+      let none : countOf (hasNumber n) (set xs i emptySlot) (size p) ≡ 0
+      = count-none (hasNumber n) (set xs i emptySlot) (size p)
+      (λ j g. at-set (λ j x. j < size p → hasNumber n x ≡ false) xs i emptySlot l (λ k. ne-eqb 0 n (λ x. omega (arith, s .positive))) j
       (λ ne k. ne-eqb (slotAt (p .service) j .number) n (λ x. ne (sym (v .once i j h k (rw number (s .positive)) (number ∙ sym x))))) g) in
-      let c = count-set (hasNumber n) xs i emptySlot slotCount h l in
+      let c = count-set (hasNumber n) xs i emptySlot (size p) h l in
       let old : hasNumber n (slotAt (p .service) i) ≡ true = eq-eqb _ _ number in
       let new : hasNumber n emptySlot ≡ false = ne-eqb 0 n (λ x. omega (arith, s .positive)) in
       let d = rw (none, old, new) at c in
       omega arith
 
-  fine-slot : (i : ℕ) → i < slotCount → slotFine (p .service) (slotAt (p .service) i) ≡ true
+  fine-slot : (i : ℕ) → i < size p → slotFine (p .rules) (p .service) (slotAt (p .service) i) ≡ true
   unfolding slotFine allZero filledFine
   fine-slot i h = go (v .taken i h)
     where
-      go : Taken (p .history) (p .store) i (slotAt (p .service) i) → slotFine (p .service) (slotAt (p .service) i) ≡ true
+      go : Taken (p .rules) (p .history) (p .store) i (slotAt (p .service) i) → slotFine (p .rules) (p .service) (slotAt (p .service) i) ≡ true
       go (inl e) = rw e
       go (inr w) =
           let n = w .0 in
@@ -130,52 +137,41 @@ module _ (p : Place) (v : Invariant p) where
           let g : leb (stepsLeft (p .history) n) (jobOf (p .history) n .steps) ≡ true = le-leb (stepsLeft (p .history) n) (jobOf (p .history) n .steps) (omega arith) in
           rw (s .is, nonempty, f .steps, f .sides, f .fits, f .kernel, l, g, c)
 
-  pub in-order : inOrder (p .service) ≡ true
+  pub in-order : inOrder (p .rules) (p .service) ≡ true
   unfolding inOrder
   in-order =
-      rw (every-true (slotFine (p .service)) (p .service .slots) slotCount fine-slot, lt-ltb (p .service .filled) slotCount (v .filled), lt-ltb (p .service .served) slotCount (v .served))
+      rw (every-true (slotFine (p .rules) (p .service)) (p .service .slots) (size p) fine-slot, lt-ltb (p .service .filled) (size p) (v .filled), lt-ltb (p .service .served) (size p) (v .served))
 
-  pub is-usable : usable (p .service) (p .store) ≡ true
+  pub is-usable : usable (p .rules) (p .service) (p .store) ≡ true
   unfolding usable
   is-usable = rw (in-order, eq-eqb (length (p .store)) storeLength (v .long))
 
 -- ---- one more call, which sets one slot and touches one job
--- the two buffers of a slot lie in one block of the store
-abbrev pub block : ℕ
-block = buffersPerSlot * bufferPixels
-
 -- what a call changed: slot i is now s, and only the job with number m was touched
 pub record Change (p : Place) (c : Call) (i m : ℕ) (s : Slot) : Type 0 where
-  pub at : i < slotCount
+  pub at : i < size p
   pub slots : next p c .service .slots ≡ set (p .service .slots) i s
   pub before : (slotAt (p .service) i .number ≡ 0) ⊎ (slotAt (p .service) i .number ≡ m)
-  pub only : (j : ℕ) → j < slotCount → (j ≡ i → ⊥) → slotAt (p .service) j .number ≡ m → ⊥
+  pub only : (j : ℕ) → j < size p → (j ≡ i → ⊥) → slotAt (p .service) j .number ≡ m → ⊥
   pub others : (n : ℕ) → (n ≡ m → ⊥) → Untouched (eventOf p c) n
   pub long : length (next p c .store) ≡ storeLength
-  pub apart : (j a n : ℕ) → (j ≡ i → ⊥) → block * j ≤ a → a + n ≤ block * (j + 1) → part a n (next p c .store) ≡ part a n (p .store)
+  pub apart : (j a n : ℕ) → (j ≡ i → ⊥) → block (p .rules) * j ≤ a → a + n ≤ block (p .rules) * (j + 1) → part a n (next p c .store) ≡ part a n (p .store)
   pub grows : jobCount (p .history) ≤ jobCount (next p c .history)
-  pub new : ((s ≡ emptySlot) × (held (next p c .history) m ≡ false)) ⊎ Sits (next p c .history) (next p c .store) i m s
-  pub filled : next p c .service .filled < slotCount
-  pub served : next p c .service .served < slotCount
+  pub new : ((s ≡ emptySlot) × (held (next p c .history) m ≡ false)) ⊎ Sits (p .rules) (next p c .history) (next p c .store) i m s
+  pub filled : next p c .service .filled < size p
+  pub served : next p c .service .served < size p
   pub last : next p c .service .last ≡ jobCount (next p c .history)
   pub given : numbers (next p c .history) ≡ countdown (jobCount (next p c .history))
   pub counted : heldCount (next p c .history) + one (not (isEmpty (slotAt (p .service) i))) ≡ heldCount (p .history) + one (not (isEmpty s))
-
--- a buffer lies within its slot's block
-pub within-block : (j done n : ℕ) → n ≤ bufferPixels → bufferAfter j done + n ≤ block * (j + 1)
-within-block j done n h = omega arith
-
-pub from-block : (j done : ℕ) → block * j ≤ bufferAfter j done
-from-block j done = omega arith
 
 pub fits-le : (w h : ℕ) → fitsBuffer w h ≡ true → w * h ≤ bufferPixels
 fits-le w h e = leb-true (w * h) bufferPixels e
 
 -- a job that an event does not touch sits as before, where its slot's block keeps its contents
-pub sits-still : (e : Event) (es : List Event) (store store′ : List ℕ) (j n : ℕ) (s : Slot) → Untouched e n → jobCount es ≤ jobCount (e ∷ es)
-    → ((a k : ℕ) → block * j ≤ a → a + k ≤ block * (j + 1) → part a k store′ ≡ part a k store)
-    → Sits es store j n s → Sits (e ∷ es) store′ j n s
-sits-still e es store store′ j n s t grows apart x =
+pub sits-still : (rules : Rules) → Workable rules → (e : Event) (es : List Event) (store store′ : List ℕ) (j n : ℕ) (s : Slot) → Untouched e n → jobCount es ≤ jobCount (e ∷ es)
+    → ((a k : ℕ) → block rules * j ≤ a → a + k ≤ block rules * (j + 1) → part a k store′ ≡ part a k store)
+    → Sits rules es store j n s → Sits rules (e ∷ es) store′ j n s
+sits-still rules workable e es store store′ j n s t grows apart x =
     let hh = same-held e es n t in
     let jj = same-job e es n t in
     let kk = same-ticks e es n t in
@@ -188,14 +184,14 @@ sits-still e es store store′ j n s t grows apart x =
       fine = rw jj (x .fine);
       image =
           rw (jj, kk)
-          (apart (bufferAfter j (ticksOf es n)) (jobOf es n .width * jobOf es n .height) (from-block j (ticksOf es n))
-          (within-block j (ticksOf es n) (jobOf es n .width * jobOf es n .height) (fits-le (jobOf es n .width) (jobOf es n .height) (x .fine .fits)))
+          (apart (bufferAfter rules j (ticksOf es n)) (jobOf es n .width * jobOf es n .height) (from-block rules workable j (ticksOf es n))
+          (within-block rules workable j (ticksOf es n) (jobOf es n .width * jobOf es n .height) (fits-le (jobOf es n .width) (jobOf es n .height) (x .fine .fits)))
           ∙ x .image);
     }
 
 module _ (p : Place) (v : Invariant p) (c : Call) (i m : ℕ) (s : Slot) (u : Change p c i m s) where
   set-at : i < length (p .service .slots)
-  set-at = omega (arith, u .at, v .eight)
+  set-at = omega (arith, u .at, v .as-many)
 
   now-at : slotAt (next p c .service) i ≡ s
   now-at = rw (u .slots) (getD-set-same (p .service .slots) i s emptySlot set-at)
@@ -204,8 +200,8 @@ module _ (p : Place) (v : Invariant p) (c : Call) (i m : ℕ) (s : Slot) (u : Ch
   elsewhere j ne = rw (u .slots) (getD-set-other (p .service .slots) i j s emptySlot ne)
 
   -- a slot that was not set sits as before
-  stays : (j : ℕ) → j < slotCount → (j ≡ i → ⊥) → Taken (p .history) (p .store) j (slotAt (p .service) j)
-      → Taken (next p c .history) (next p c .store) j (slotAt (p .service) j)
+  stays : (j : ℕ) → j < size p → (j ≡ i → ⊥) → Taken (p .rules) (p .history) (p .store) j (slotAt (p .service) j)
+      → Taken (p .rules) (next p c .history) (next p c .store) j (slotAt (p .service) j)
   stays j h ne (inl e) = inl e
   stays j h ne (inr w) =
       let n = w .0 in
@@ -213,11 +209,11 @@ module _ (p : Place) (v : Invariant p) (c : Call) (i m : ℕ) (s : Slot) (u : Ch
       let other : (n ≡ m → ⊥) = λ e. u .only j h ne (ap (λ z. z .number) (x .is) ∙ e) in
       inr (
         n,
-        sits-still (eventOf p c) (p .history) (p .store) (next p c .store) j n (slotAt (p .service) j) (u .others n other) (u .grows)
+        sits-still (p .rules) (v .workable) (eventOf p c) (p .history) (p .store) (next p c .store) j n (slotAt (p .service) j) (u .others n other) (u .grows)
             (λ a k. u .apart j a k ne) x,
       )
 
-  takes : (j : ℕ) → j < slotCount → (t : Bool) → eqb j i ≡ t → Taken (next p c .history) (next p c .store) j (slotAt (next p c .service) j)
+  takes : (j : ℕ) → j < size p → (t : Bool) → eqb j i ≡ t → Taken (p .rules) (next p c .history) (next p c .store) j (slotAt (next p c .service) j)
   takes j h true e = rw (eqb-true j i e, now-at) (⊎-elim (λ w. inl (w .0)) (λ w. inr (m, w)) (u .new))
   takes j h false e = let ne = eqb-false j i e in rw (elsewhere j ne) (stays j h ne (v .taken j h))
 
@@ -225,11 +221,11 @@ module _ (p : Place) (v : Invariant p) (c : Call) (i m : ℕ) (s : Slot) (u : Ch
   number-now : 0 < s .number → s .number ≡ m
   number-now h = ⊎-elim (λ w. absurd (let z = ap (λ x. x .number) (w .0) in omega arith)) (λ w. ap (λ x. x .number) (w .is)) (u .new)
 
-  place-of-touched : held (next p c .history) m ≡ true → (j : ℕ) × (j < slotCount) × (slotAt (next p c .service) j .number ≡ m) × (0 < m)
+  place-of-touched : held (next p c .history) m ≡ true → (j : ℕ) × (j < size p) × (slotAt (next p c .service) j .number ≡ m) × (0 < m)
   place-of-touched h = ⊎-elim (λ w. absurd (true≢false (sym h ∙ w .1))) (λ w. (i, u .at, rw now-at (ap (λ (x : Slot). x .number) (w .is)), w .positive)) (u .new)
 
   place-of-other : (n : ℕ) → (n ≡ m → ⊥) → held (next p c .history) n ≡ true
-      → (j : ℕ) × (j < slotCount) × (slotAt (next p c .service) j .number ≡ n) × (0 < n)
+      → (j : ℕ) × (j < size p) × (slotAt (next p c .service) j .number ≡ n) × (0 < n)
   place-of-other n ne h =
       let w = v .placed n (sym (same-held (eventOf p c) (p .history) n (u .others n ne)) ∙ h) in
       let away : (w .0 ≡ i → ⊥) = λ e. ⊎-elim
@@ -238,11 +234,11 @@ module _ (p : Place) (v : Invariant p) (c : Call) (i m : ℕ) (s : Slot) (u : Ch
       (w .0, w .1, rw (elsewhere (w .0) away) (w .2), w .3)
 
   placed-now : (n : ℕ) → (t : Bool) → eqb n m ≡ t → held (next p c .history) n ≡ true
-      → (j : ℕ) × (j < slotCount) × (slotAt (next p c .service) j .number ≡ n) × (0 < n)
+      → (j : ℕ) × (j < size p) × (slotAt (next p c .service) j .number ≡ n) × (0 < n)
   placed-now n true e = rw (eqb-true n m e) place-of-touched
   placed-now n false e = place-of-other n (eqb-false n m e)
 
-  once-now : (a b : ℕ) → a < slotCount → b < slotCount → (t q : Bool) → eqb a i ≡ t → eqb b i ≡ q → 0 < slotAt (next p c .service) a .number
+  once-now : (a b : ℕ) → a < size p → b < size p → (t q : Bool) → eqb a i ≡ t → eqb b i ≡ q → 0 < slotAt (next p c .service) a .number
       → slotAt (next p c .service) a .number ≡ slotAt (next p c .service) b .number → a ≡ b
   once-now a b ha hb true true x y g e = eqb-true a i x ∙ sym (eqb-true b i y)
   once-now a b ha hb true false x y g e =
@@ -264,7 +260,8 @@ module _ (p : Place) (v : Invariant p) (c : Call) (i m : ℕ) (s : Slot) (u : Ch
   pub changed : Invariant (next p c)
   changed =
       record {
-        eight = rw (u .slots) (length-set (p .service .slots) i s ∙ v .eight);
+        workable = v .workable;
+        as-many = rw (u .slots) (length-set (p .service .slots) i s ∙ v .as-many);
         long = u .long;
         filled = u .filled;
         served = u .served;
@@ -275,7 +272,7 @@ module _ (p : Place) (v : Invariant p) (c : Call) (i m : ℕ) (s : Slot) (u : Ch
         once = λ a b ha hb. once-now a b ha hb (eqb a i) (eqb b i) refl refl;
         counted =
             rw (u .slots)
-            (let k = count-set (λ x. not (isEmpty x)) (p .service .slots) i s slotCount (u .at) set-at in
+            (let k = count-set (λ x. not (isEmpty x)) (p .service .slots) i s (size p) (u .at) set-at in
             let o = v .counted in
             let w = u .counted in
             omega arith);

@@ -1,7 +1,7 @@
 -- Demand 3 of every list of calls, and the laws that it and the running calls' proofs share.
 pub mod Search
 pub mod Parts
-pub mod Fronts
+pub mod Rules
 pub mod Words
 pub mod Invariant
 pub mod Quiet

@@ -9,6 +9,7 @@ use Rattle.covariance.specs.declared.Shape.{Shape}
 use Rattle.machine.specs.declared.Slot.{Slot}
 use Rattle.machine.specs.declared.Service.{Service}
 use Rattle.machine.specs.Answers.{answerNumber, answerValues, countNumber, countValues}
+use Rattle.machine.specs.Rules.{baseRules}
 use Rattle.machine.specs.Store.{part}
 use Rattle.machine.specs.Calls.{Call, submit, tick, collect, withdraw, freeCountOf}
 use Rattle.machine.specs.History.{Place, next, after, since, Submitted, jobOf, held, ticksOf, stepsLeft, finished, numbers, heldCount, withdrawnIn, ticksIn}
@@ -49,7 +50,7 @@ computed p [] = []
 computed p (called c number values lent ∷ rest) =
     called c (answerNumber (answerAt p c)) (answerValues (answerAt p c)) (lentAfter p c) ∷ computed (next p c) rest
 computed p (counted number values ∷ rest) =
-    counted (countNumber (freeCountOf (p .service))) (countValues (freeCountOf (p .service))) ∷ computed p rest
+    counted (countNumber (freeCountOf (p .rules) (p .service))) (countValues (freeCountOf (p .rules) (p .service))) ∷ computed p rest
 computed p (stands r ∷ rest) = stands (p .service) ∷ computed p rest
 computed p (stored start pixels ∷ rest) = stored start (part start (length pixels) (p .store)) ∷ computed p rest
 computed p (word n h t l f ∷ rest) =
@@ -111,4 +112,4 @@ abbrev pub keeps : List Slot → ℕ → ℕ → ℕ → Service
 keeps slots last filled served = record { slots = slots; last = last; filled = filled; served = served }
 
 abbrev pub placed : Service → List ℕ → Place
-placed r store = record { service = r; store = store; history = [] }
+placed r store = record { rules = baseRules; service = r; store = store; history = [] }

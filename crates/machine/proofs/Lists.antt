@@ -1,20 +1,21 @@
 -- The invariant holds at the opening and after every list of calls; a number is never given again, so what a job was stays,
 -- and a finished job stays finished. Assumes nothing.
 use mathlib.Core.Path.{_≡_, refl, sym, _∙_, ap}
-use mathlib.Core.Bool.{false, true≢false}
+use mathlib.Core.Bool.{false, not, true≢false}
 use mathlib.Core.Logic.{inl}
 use mathlib.Core.List.{List, [], _∷_}
-use Prim.Native.Nat.{ℕ, zero, suc, _+_, _≤_, _<_}
+use Prim.Native.Nat.{ℕ, zero, suc, _+_, _-_, _≤_, _<_}
 use native.Mathlib.Nat.{le-trans, le-of-eq}
 use native.Mathlib.Omega.{arith}
 use borrow.Author.Tests.{ne-eqb}
-use lib.ListN.{length, getD, replicate}
+use lib.ListN.{length, getD, replicate, length-replicate}
 use Rattle.limits.specs.declared.Outcome.{Outcome}
 use Rattle.limits.specs.declared.Outcome.the-variants as O
 use Rattle.machine.specs.declared.Answer.{Answer}
 use Rattle.machine.specs.declared.Answer.the-variants.{Job, Idle, Refused}
-use Rattle.machine.specs.Slots.{slotCount, emptySlot, countOf}
-use Rattle.machine.specs.Store.{storeLength}
+use Rattle.machine.specs.Rules.{Rules}
+use Rattle.machine.specs.Slots.{emptySlot, isEmpty, countOf}
+use Rattle.machine.specs.Store.{storeLength, Workable}
 use Rattle.machine.specs.Calls.{Call, submit, tick, collect, withdraw}
 use Rattle.machine.specs.History.{Place, opened, next, eventOf, after, answersNumber, starts, held, stepsLeft, numbers, howMany, jobCount}
 use Rattle.machine.specs.Demand.{numberUnless, submitOutcome, submitAnswer, withdrawAnswer, collectAnswer}
@@ -27,7 +28,7 @@ use Rattle.machine.proofs.Ends.{withdraws, collects}
 
 -- every call, by what it is
 pub answers : (p : Place) → Invariant p → (c : Call) → (a : Answer) × Served p c a
-answers p v (submit shape k w h pixels) = (submitAnswer (p .history) shape k w h pixels, submits p v shape k w h pixels)
+answers p v (submit shape k w h pixels) = (submitAnswer (p .rules) (p .history) shape k w h pixels, submits p v shape k w h pixels)
 answers p v tick = go (ticked p v)
   where
     go : Ticked p v → (a : Answer) × Served p tick a
@@ -44,25 +45,39 @@ unfolding after
 after-invariant [] p v = v
 after-invariant (c ∷ cs) p v = after-invariant cs (next p c) (next-invariant p v c)
 
+-- no call changes the rules
+pub after-rules : (cs : List Call) (p : Place) → after p cs .rules ≡ p .rules
+unfolding after
+after-rules [] p = refl
+after-rules (c ∷ cs) p = after-rules cs (next p c)
+
 empty-at : (n i : ℕ) → getD (replicate n emptySlot) i emptySlot ≡ emptySlot
 empty-at zero i = refl
 empty-at (suc n) zero = refl
 empty-at (suc n) (suc i) = empty-at n i
 
-pub opened-invariant : (store : List ℕ) → length store ≡ storeLength → Invariant (opened store)
-unfolding numbers held countOf howMany
-opened-invariant store e =
+-- no slot of an opening is filled
+none-filled : (size n : ℕ) → countOf (λ s. not (isEmpty s)) (replicate size emptySlot) n ≡ 0
+unfolding countOf
+none-filled size zero = refl
+none-filled size (suc n) = rw (empty-at size n, none-filled size n)
+
+pub opened-invariant : (rules : Rules) → Workable rules → (store : List ℕ) → length store ≡ storeLength → Invariant (opened rules store)
+unfolding numbers held howMany
+opened-invariant rules workable store e =
+    let last : rules .slotCount - 1 < rules .slotCount = let some = workable .some-slot in omega arith in
     record {
-      eight = refl;
+      workable = workable;
+      as-many = length-replicate (rules .slotCount) emptySlot;
       long = e;
-      filled = omega arith;
-      served = omega arith;
+      filled = last;
+      served = last;
       last = refl;
       given = refl;
-      taken = λ i h. inl (empty-at slotCount i);
+      taken = λ i h. inl (empty-at (rules .slotCount) i);
       placed = λ n h. absurd (true≢false (sym h));
-      once = λ i j hi hj g x. absurd (let z : 0 < 0 = rw (empty-at slotCount i) at g in omega arith);
-      counted = refl;
+      once = λ i j hi hj g x. absurd (let z : 0 < 0 = rw (empty-at (rules .slotCount) i) at g in omega arith);
+      counted = none-filled (rules .slotCount) (rules .slotCount);
     }
 
 -- ---- numbers are never given again
@@ -72,7 +87,7 @@ unless-other (O.Refused code) n m ne = refl
 
 pub not-restarted : (p : Place) → Invariant p → (c : Call) (n : ℕ) → n ≤ jobCount (p .history) → starts (eventOf p c) n ≡ false
 not-restarted p v (submit shape k w h pixels) n l =
-    ap (λ a. answersNumber a n) (submits p v shape k w h pixels .answered) ∙ unless-other (submitOutcome (p .history) shape k w h pixels) n (jobCount (p .history) + 1) (λ e. omega arith)
+    ap (λ a. answersNumber a n) (submits p v shape k w h pixels .answered) ∙ unless-other (submitOutcome (p .rules) (p .history) shape k w h pixels) n (jobCount (p .history) + 1) (λ e. omega arith)
 not-restarted p v tick n l = refl
 not-restarted p v (collect m lent) n l = refl
 not-restarted p v (withdraw m) n l = refl

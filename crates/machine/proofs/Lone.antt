@@ -6,12 +6,13 @@ use mathlib.Core.List.{List, [], _∷_}
 use Prim.Native.Nat.{ℕ, zero, suc, _+_, _-_, _*_, _≤_, _<_}
 use native.Mathlib.Nat.{add-zero}
 use native.Mathlib.Omega.{arith}
-use borrow.Author.Tests.{eq-eqb}
+use borrow.Author.Tests.{eq-eqb, lt-ltb}
 use lib.Dec.{eqb}
 use lib.ListN.{length, replicate}
 use Rattle.limits.specs.declared.Outcome.the-variants as O
 use Rattle.machine.specs.declared.Answer.the-variants.{Job}
-use Rattle.machine.specs.Store.{storeLength}
+use Rattle.machine.specs.Rules.{Rules}
+use Rattle.machine.specs.Store.{storeLength, Workable}
 use Rattle.machine.specs.Calls.{Call, submit, tick, collect}
 use Rattle.machine.specs.History.{Place, opened, next, eventOf, after, accepts, answersNumber, Submitted, aloneAfter, jobOf, held, ticksOf, stepsLeft, givenBy, numbers, howMany, jobCount}
 use Rattle.machine.specs.Demand.{submitOutcome, answerAt, lentAfter, loneCalls, allAccepted}
@@ -31,40 +32,40 @@ record Lone (p : Place) (j : Submitted) (t : ℕ) : Type 0 where
   ticks : ticksOf (p .history) 1 ≡ t
   accepted : allAccepted (p .history) ≡ true
 
-module _ (j : Submitted) (fine : JobFine j) where
+module _ (rules : Rules) (workable : Workable rules) (j : Submitted) (fine : JobFine j) where
   abbrev first : Call
   first = submit (j .shape) (j .steps) (j .width) (j .height) (j .picture)
 
-  outcome : submitOutcome [] (j .shape) (j .steps) (j .width) (j .height) (j .picture) ≡ O.Accepted
+  outcome : submitOutcome rules [] (j .shape) (j .steps) (j .width) (j .height) (j .picture) ≡ O.Accepted
   unfolding numbers howMany
-  outcome = rw (fine .variances, fine .direction, fine .steps, fine .sides, eq-eqb (length (j .picture)) (j .width * j .height) (fine .full), fine .fits, fine .kernel)
+  outcome = rw (fine .variances, fine .direction, fine .steps, fine .sides, eq-eqb (length (j .picture)) (j .width * j .height) (fine .full), fine .fits, fine .kernel, lt-ltb 0 (rules .slotCount) (workable .some-slot))
 
   module _ (store : List ℕ) (long : length store ≡ storeLength) where
-    answered : answerAt (opened store) first ≡ Job 1
+    answered : answerAt (opened rules store) first ≡ Job 1
     unfolding numbers
     answered =
-        submits (opened store) (opened-invariant store long) (j .shape) (j .steps) (j .width) (j .height) (j .picture) .answered
+        submits (opened rules store) (opened-invariant rules workable store long) (j .shape) (j .steps) (j .width) (j .height) (j .picture) .answered
         ∙ rw outcome
 
-    starts-it : answersNumber (answerAt (opened store) first) 1 ≡ true
+    starts-it : answersNumber (answerAt (opened rules store) first) 1 ≡ true
     starts-it = ap (λ a. answersNumber a 1) answered
 
-    one-number : numbers (next (opened store) first .history) ≡ 1 ∷ []
+    one-number : numbers (next (opened rules store) first .history) ≡ 1 ∷ []
     unfolding numbers
     one-number = ap (λ a. givenBy first a []) answered
 
-    all-accepted : allAccepted (next (opened store) first .history) ≡ true
+    all-accepted : allAccepted (next (opened rules store) first .history) ≡ true
     unfolding allAccepted
     all-accepted = ap (λ a. accepts a && true) answered
 
-    start : Lone (next (opened store) first) j 0
+    start : Lone (next (opened rules store) first) j 0
     start =
         record {
-          holds = next-invariant (opened store) (opened-invariant store long) first;
+          holds = next-invariant (opened rules store) (opened-invariant rules workable store long) first;
           jobs = ap length one-number;
-          is-held = started-held (eventOf (opened store) first) [] 1 starts-it;
-          job = started-job (eventOf (opened store) first) [] 1 starts-it;
-          ticks = started-ticks (eventOf (opened store) first) [] 1 starts-it;
+          is-held = started-held (eventOf (opened rules store) first) [] 1 starts-it;
+          job = started-job (eventOf (opened rules store) first) [] 1 starts-it;
+          ticks = started-ticks (eventOf (opened rules store) first) [] 1 starts-it;
           accepted = all-accepted;
         }
 
@@ -110,11 +111,11 @@ module _ (j : Submitted) (fine : JobFine j) where
 
   module _ (store : List ℕ) (long : length store ≡ storeLength) where
     abbrev end : Place
-    end = after (opened store) (loneCalls j)
+    end = after (opened rules store) (loneCalls j)
 
     finished : Lone end j (0 + j .steps)
     unfolding after
-    finished = all-ticks (j .steps) (next (opened store) first) 0 (start store long) (omega arith)
+    finished = all-ticks (j .steps) (next (opened rules store) first) 0 (start store long) (omega arith)
 
     pub lone-accepted : allAccepted (end .history) ≡ true
     lone-accepted = finished .accepted

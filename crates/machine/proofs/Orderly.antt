@@ -1,4 +1,5 @@
--- What a record that is in order says of each slot: the facts that the running calls work with. Assumes nothing.
+-- What a record that is in order says of each slot, and what the calls' searches find in it: the facts that the running calls work
+-- with, by any rules. Assumes nothing.
 use mathlib.Core.Path.{_≡_, refl}
 use mathlib.Core.Bool.{Bool, true, false, cond, _&&_}
 use mathlib.Core.List.{List}
@@ -14,9 +15,11 @@ use Rattle.kernel.specs.Existence.{kernelExists}
 use Rattle.machine.specs.declared.Slot.{Slot}
 use Rattle.machine.specs.declared.Service.{Service}
 use Rattle.machine.specs.declared.Found.the-variants.{At, Nothing}
-use Rattle.machine.specs.Slots.{slotCount, emptySlot, slotAt, hasNumber, firstFrom, everySlot}
-use Rattle.machine.specs.Calls.{placeOf}
-use Rattle.machine.proofs.Search.{found}
+use Rattle.machine.specs.Rules.{Rules}
+use Rattle.machine.specs.Slots.{emptySlot, slotAt, isEmpty, hasStepsLeft, hasNumber, nextPlace, firstFrom, everySlot}
+use Rattle.machine.specs.Store.{Workable}
+use Rattle.machine.specs.Calls.{emptyPlace, servedPlace, placeOf}
+use Rattle.machine.proofs.Search.{found, next-lt}
 use Rattle.machine.specs.Order.{FilledSlot, isZero, allZero, filledFine, unshared, slotFine, inOrder}
 
 each : (test : Slot → Bool) (xs : List Slot) (n i : ℕ) → i < n → everySlot test xs n ≡ true → test (getD xs i emptySlot) ≡ true
@@ -28,32 +31,32 @@ each test xs (suc n) i h e = go (eqb i n) refl (each test xs n i)
     go true q f = rw (eqb-true i n q) (both-true (everySlot test xs n) (test (getD xs n emptySlot)) e .1)
     go false q f = let ne = eqb-false i n q in f (omega arith) (both-true (everySlot test xs n) (test (getD xs n emptySlot)) e .0)
 
-module _ (r : Service) (ordered : inOrder r ≡ true) where
-  parts : (everySlot (slotFine r) (r .slots) slotCount ≡ true) × ((ltb (r .filled) slotCount && ltb (r .served) slotCount) ≡ true)
+module _ (rules : Rules) (r : Service) (ordered : inOrder rules r ≡ true) where
+  parts : (everySlot (slotFine rules r) (r .slots) (rules .slotCount) ≡ true) × ((ltb (r .filled) (rules .slotCount) && ltb (r .served) (rules .slotCount)) ≡ true)
   unfolding inOrder
-  parts = both-true (everySlot (slotFine r) (r .slots) slotCount) (ltb (r .filled) slotCount && ltb (r .served) slotCount) ordered
+  parts = both-true (everySlot (slotFine rules r) (r .slots) (rules .slotCount)) (ltb (r .filled) (rules .slotCount) && ltb (r .served) (rules .slotCount)) ordered
 
-  pub filled-lt : r .filled < slotCount
-  filled-lt = ltb-true (r .filled) slotCount (both-true (ltb (r .filled) slotCount) (ltb (r .served) slotCount) (parts .1) .0)
+  pub filled-lt : r .filled < rules .slotCount
+  filled-lt = ltb-true (r .filled) (rules .slotCount) (both-true (ltb (r .filled) (rules .slotCount)) (ltb (r .served) (rules .slotCount)) (parts .1) .0)
 
-  pub served-lt : r .served < slotCount
-  served-lt = ltb-true (r .served) slotCount (both-true (ltb (r .filled) slotCount) (ltb (r .served) slotCount) (parts .1) .1)
+  pub served-lt : r .served < rules .slotCount
+  served-lt = ltb-true (r .served) (rules .slotCount) (both-true (ltb (r .filled) (rules .slotCount)) (ltb (r .served) (rules .slotCount)) (parts .1) .1)
 
-  fine : (i : ℕ) → i < slotCount → slotFine r (slotAt r i) ≡ true
-  fine i h = each (slotFine r) (r .slots) slotCount i h (parts .0)
+  fine : (i : ℕ) → i < rules .slotCount → slotFine rules r (slotAt r i) ≡ true
+  fine i h = each (slotFine rules r) (r .slots) (rules .slotCount) i h (parts .0)
 
-  pub filled-slot : (i : ℕ) → i < slotCount → (slotAt r i .number ≡ 0 → ⊥) → FilledSlot (r .last) (slotAt r i)
+  pub filled-slot : (i : ℕ) → i < rules .slotCount → (slotAt r i .number ≡ 0 → ⊥) → FilledSlot (r .last) (slotAt r i)
   unfolding slotFine filledFine
   filled-slot i h ne =
       let s = slotAt r i in
-      let e : (filledFine (r .last) s && unshared (r .slots) s) ≡ true = rw (ne-eqb (s .number) 0 ne) at (fine i h) in
+      let e : (filledFine (r .last) s && unshared rules (r .slots) s) ≡ true = rw (ne-eqb (s .number) 0 ne) at (fine i h) in
       let steps = stepsInRange (s .steps) in
       let kernel = kernelExists (s .xx) (s .xy) (s .yy) (unitsOf (s .steps)) in
       let sides = sidesInRange (s .width) (s .height) in
       let fits = fitsBuffer (s .width) (s .height) in
       let number = leb (s .number) (r .last) in
       let left = leb (s .left) (s .steps) in
-      let all = both-true ((steps && kernel) && (sides && (fits && (number && left)))) (unshared (r .slots) s) e .0 in
+      let all = both-true ((steps && kernel) && (sides && (fits && (number && left)))) (unshared rules (r .slots) s) e .0 in
       let a = both-true (steps && kernel) (sides && (fits && (number && left))) all in
       let b = both-true steps kernel (a .0) in
       let c = both-true sides (fits && (number && left)) (a .1) in
@@ -69,7 +72,7 @@ module _ (r : Service) (ordered : inOrder r ≡ true) where
       }
 
   -- a slot with steps left is filled
-  pub left-filled : (i : ℕ) → i < slotCount → 0 < slotAt r i .left → slotAt r i .number ≡ 0 → ⊥
+  pub left-filled : (i : ℕ) → i < rules .slotCount → 0 < slotAt r i .left → slotAt r i .number ≡ 0 → ⊥
   unfolding slotFine allZero
   left-filled i h l e =
       let s = slotAt r i in
@@ -82,13 +85,28 @@ module _ (r : Service) (ordered : inOrder r ≡ true) where
       let g = eqb-true (s .left) 0 (f .0) in
       omega arith
 
--- where a job was found
-pub place-found : (r : Service) (n i : ℕ) → placeOf r n ≡ At i → (i < slotCount) × (slotAt r i .number ≡ n) × (n ≡ 0 → ⊥)
-place-found r n i = go (eqb n 0) refl
-  where
-    go : (t : Bool) → eqb n 0 ≡ t → cond t Nothing (firstFrom (hasNumber n) (r .slots) slotCount 0 slotCount) ≡ At i
-        → (i < slotCount) × (slotAt r i .number ≡ n) × (n ≡ 0 → ⊥)
-    go true z e = absurd (let q : _≡_ {A = ℕ} 0 1 = cc in omega arith)
-    go false z e =
-        let w = found (hasNumber n) (r .slots) slotCount (omega arith) slotCount 0 i (omega arith) e in
-        (w .0, eqb-true (slotAt r i .number) n (w .1), eqb-false n 0 z)
+-- ---- what the calls' searches find: a slot, and one that passes
+module _ (rules : Rules) (workable : Workable rules) (r : Service) where
+  -- in a search over all slots from the one after a place on
+  found-from : (test : Slot → Bool) (from i : ℕ) → firstFrom test (r .slots) (rules .slotCount) (nextPlace (rules .slotCount) from) (rules .slotCount) ≡ At i
+      → (i < rules .slotCount) × (test (slotAt r i) ≡ true)
+  found-from test from i e =
+      let size = rules .slotCount in
+      let some = workable .some-slot in
+      found test (r .slots) size some size (nextPlace size from) i (next-lt size from some) e
+
+  pub empty-found : (i : ℕ) → emptyPlace rules r ≡ At i → (i < rules .slotCount) × (slotAt r i .number ≡ 0)
+  empty-found i e = let w = found-from isEmpty (r .filled) i e in (w .0, eqb-true (slotAt r i .number) 0 (w .1))
+
+  pub served-found : (i : ℕ) → servedPlace rules r ≡ At i → (i < rules .slotCount) × (0 < slotAt r i .left)
+  served-found i e = let w = found-from hasStepsLeft (r .served) i e in (w .0, ltb-true 0 (slotAt r i .left) (w .1))
+
+  pub place-found : (n i : ℕ) → placeOf rules r n ≡ At i → (i < rules .slotCount) × (slotAt r i .number ≡ n) × (n ≡ 0 → ⊥)
+  place-found n i = go (eqb n 0) refl
+    where
+      go : (t : Bool) → eqb n 0 ≡ t → cond t Nothing (firstFrom (hasNumber n) (r .slots) (rules .slotCount) 0 (rules .slotCount)) ≡ At i
+          → (i < rules .slotCount) × (slotAt r i .number ≡ n) × (n ≡ 0 → ⊥)
+      go true z e = absurd (let q : _≡_ {A = ℕ} 0 1 = cc in omega arith)
+      go false z e =
+          let w = found (hasNumber n) (r .slots) (rules .slotCount) (workable .some-slot) (rules .slotCount) 0 i (workable .some-slot) e in
+          (w .0, eqb-true (slotAt r i .number) n (w .1), eqb-false n 0 z)

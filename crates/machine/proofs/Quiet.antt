@@ -19,19 +19,20 @@ module _ (p : Place) (v : Invariant p) (c : Call) (no-answer : accepts (eventOf 
   same-jobs : jobCount (next p c .history) ≡ jobCount (p .history)
   same-jobs = ap length (same-numbers (eventOf p c) (p .history) no-answer)
 
-  takes : (i : ℕ) (s : Slot) → Taken (p .history) (p .store) i s → Taken (next p c .history) (next p c .store) i s
+  takes : (i : ℕ) (s : Slot) → Taken (p .rules) (p .history) (p .store) i s → Taken (p .rules) (next p c .history) (next p c .store) i s
   takes i s (inl e) = inl e
   takes i s (inr w) =
       inr (
         w .0,
-        sits-still (eventOf p c) (p .history) (p .store) (next p c .store) i (w .0) s (untouched-by (eventOf p c) no-answer (w .0))
+        sits-still (p .rules) (v .workable) (eventOf p c) (p .history) (p .store) (next p c .store) i (w .0) s (untouched-by (eventOf p c) no-answer (w .0))
             (le-of-eq (sym same-jobs)) (λ a k x y. rw same-store) (w .1),
       )
 
   pub quiet : Invariant (next p c)
   quiet =
       record {
-        eight = rw same-service (v .eight);
+        workable = v .workable;
+        as-many = rw same-service (v .as-many);
         long = rw same-store (v .long);
         filled = rw same-service (v .filled);
         served = rw same-service (v .served);

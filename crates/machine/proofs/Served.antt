@@ -30,7 +30,7 @@ pub record Served (p : Place) (c : Call) (answer : Answer) : Type 0 where
 
 -- a call that leaves all as it was
 pub idle-call : (p : Place) → Invariant p → (c : Call) (answer : Answer) → accepts answer ≡ false
-    → callOf (p .service) (p .store) c ≡ record { answer = answer; service = p .service; store = p .store; lent = lentTo c } → Served p c answer
+    → callOf (p .rules) (p .service) (p .store) c ≡ record { answer = answer; service = p .service; store = p .store; lent = lentTo c } → Served p c answer
 idle-call p v c answer a r =
     record {
       answered = ap (λ (r : Result). r .answer) r;
@@ -41,5 +41,5 @@ idle-call p v c answer a r =
     }
 
 pub refused-call : (p : Place) → Invariant p → (c : Call) (code : ErrorCode)
-    → callOf (p .service) (p .store) c ≡ record { answer = Refused code; service = p .service; store = p .store; lent = lentTo c } → Served p c (Refused code)
+    → callOf (p .rules) (p .service) (p .store) c ≡ record { answer = Refused code; service = p .service; store = p .store; lent = lentTo c } → Served p c (Refused code)
 refused-call p v c code r = idle-call p v c (Refused code) refl r

@@ -5,7 +5,7 @@ use mathlib.Core.Bool.{Bool, true, false}
 use mathlib.Core.List.{List}
 use Prim.Native.Nat.{ℕ, _+_, _-_, _≤_, _<_}
 use native.Mathlib.Omega.{arith}
-use borrow.Author.Tests.{ltb-true, eqb-true}
+use borrow.Author.Tests.{eqb-true}
 use lib.Dec.{eqb}
 use lib.ListN.{length}
 use Rattle.limits.proofs.Laws.{both-true}
@@ -21,63 +21,64 @@ use Rattle.machine.specs.declared.Service.{Service}
 use Rattle.machine.specs.declared.Answer.the-variants.{Job}
 use Rattle.machine.specs.declared.Found.{Found}
 use Rattle.machine.specs.declared.Found.the-variants.{At, Nothing}
-use Rattle.machine.specs.Slots.{slotCount, slotAt, hasStepsLeft, nextPlace}
-use Rattle.machine.specs.Store.{storeLength, bufferAfter, pixelCount, stepsDone, currentImage}
+use Rattle.machine.specs.Rules.{Rules}
+use Rattle.machine.specs.Slots.{slotAt}
+use Rattle.machine.specs.Store.{storeLength, Workable, bufferAfter, pixelCount, stepsDone, currentImage}
 use Rattle.machine.specs.Order.{inOrder, usable}
 use Rattle.machine.specs.Calls.{Result, tickAt, tickOf, servedPlace, kernelOfSlot, nextImage}
 use Rattle.machine.specs.History.{opened, kernelOfJob, aloneAfter}
 use Rattle.machine.specs.Spots.{TickEnhancesNone, Collected, placeCollected, jobCollected, pictureCollected}
-use Rattle.machine.proofs.Search.{found, next-lt}
 use Rattle.machine.proofs.Parts.{part-own}
+use Rattle.machine.proofs.Rules.{in-store}
 use Rattle.machine.proofs.Invariant.{JobFine, fits-le}
-use Rattle.machine.proofs.Orderly.{filled-slot, left-filled}
+use Rattle.machine.proofs.Orderly.{filled-slot, left-filled, served-found}
 use Rattle.machine.proofs.Ends.{hands-over}
 use Rattle.machine.proofs.Lists.{after-invariant, opened-invariant}
 
-module _ (r : Service) (store : List ℕ) where
+module _ (rules : Rules) (workable : Workable rules) (r : Service) (store : List ℕ) where
   -- one step of slot i
-  module _ (fine : usable r store ≡ true) (i : ℕ) (served : servedPlace r ≡ At i) where
+  module _ (fine : usable rules r store ≡ true) (i : ℕ) (served : servedPlace rules r ≡ At i) where
     abbrev slot : Slot
     slot = slotAt r i
 
-    tick-is : tickOf r store ≡ tickAt r store (At i)
+    tick-is : tickOf rules r store ≡ tickAt rules r store (At i)
     unfolding tickOf
     tick-is = rw (fine, served)
 
-    halves : (inOrder r ≡ true) × (eqb (length store) storeLength ≡ true)
+    halves : (inOrder rules r ≡ true) × (eqb (length store) storeLength ≡ true)
     unfolding usable
-    halves = both-true (inOrder r) (eqb (length store) storeLength) fine
+    halves = both-true (inOrder rules r) (eqb (length store) storeLength) fine
 
-    at : (i < slotCount) × (hasStepsLeft slot ≡ true)
-    at = found hasStepsLeft (r .slots) slotCount (omega arith) slotCount (nextPlace slotCount (r .served)) i (next-lt slotCount (r .served) (omega arith)) served
+    at : (i < rules .slotCount) × (0 < slot .left)
+    at = served-found rules workable r i served
 
-    full : length (nextImage store i slot) ≡ pixelCount slot
+    full : length (nextImage rules store i slot) ≡ pixelCount slot
     unfolding stepOf
     full = length-image (slot .width) (slot .height) _
 
-    step-of-slot : TickEnhancesNone r store i
+    step-of-slot : TickEnhancesNone rules r store i
     unfolding iterate
     step-of-slot =
-        let left = ltb-true 0 (slot .left) (at .1) in
-        let filled = filled-slot r (halves .0) i (at .0) (left-filled r (halves .0) i (at .0) left) in
+        let left = at .1 in
+        let filled = filled-slot rules r (halves .0) i (at .0) (left-filled rules r (halves .0) i (at .0) left) in
         let small = fits-le (slot .width) (slot .height) (filled .fits) in
         let long = eqb-true (length store) storeLength (halves .1) in
         let few = filled .left in
-        let next = nextImage store i slot in
+        let next = nextImage rules store i slot in
         let done : slot .steps - (slot .left - 1) ≡ stepsDone slot + 1 = omega arith in
-        let room : bufferAfter i (stepsDone slot + 1) + pixelCount slot ≤ length store = let l = at .0 in omega arith in
-        rw (tick-is, done, part-own (bufferAfter i (stepsDone slot + 1)) (pixelCount slot) next store full room)
+        let room : bufferAfter rules i (stepsDone slot + 1) + pixelCount slot ≤ length store = rw long (in-store rules workable i (stepsDone slot + 1) (pixelCount slot) (at .0) small) in
+        rw (tick-is, done, part-own (bufferAfter rules i (stepsDone slot + 1)) (pixelCount slot) next store full room)
         (bright-spots (kernelOfSlot slot) (slot .steps) (sound (slot .xx) (slot .xy) (slot .yy) (slot .steps) (filled .steps) (filled .kernel))
-        (slot .width) (slot .height) .steps-enhance-none (currentImage store i slot) 0)
+        (slot .width) (slot .height) .steps-enhance-none (currentImage rules store i slot) 0)
 
   -- WHAT A TICK WRITES: where a tick answers a job number, the job's slot has gone from one picture to the next like that, whatever the
   -- record and the store held
-  pub tick-enhances-none : (n : ℕ) → tickOf r store .answer ≡ Job n → (i : ℕ) × (i < slotCount) × (slotAt r i .number ≡ n) × TickEnhancesNone r store i
+  pub tick-enhances-none : (n : ℕ) → tickOf rules r store .answer ≡ Job n → (i : ℕ) × (i < rules .slotCount) × (slotAt r i .number ≡ n) × TickEnhancesNone rules r store i
   unfolding tickOf
-  tick-enhances-none n e = go (usable r store) refl (servedPlace r) refl e
+  tick-enhances-none n e = go (usable rules r store) refl (servedPlace rules r) refl e
     where
-      go : (t : Bool) → usable r store ≡ t → (f : Found) → servedPlace r ≡ f → tickOf r store .answer ≡ Job n
-          → (i : ℕ) × (i < slotCount) × (slotAt r i .number ≡ n) × TickEnhancesNone r store i
+      go : (t : Bool) → usable rules r store ≡ t → (f : Found) → servedPlace rules r ≡ f → tickOf rules r store .answer ≡ Job n
+          → (i : ℕ) × (i < rules .slotCount) × (slotAt r i .number ≡ n) × TickEnhancesNone rules r store i
       go true u (At i) s e =
           let number : Job (slotAt r i .number) ≡ Job n = sym (ap (λ (x : Result). x .answer) (tick-is u i s)) ∙ e in
           (i, at u i s .0, cc, step-of-slot u i s)
@@ -88,7 +89,7 @@ module _ (r : Service) (store : List ℕ) where
 -- such a picture is what its job gets alone, and S-1 holds of its kernel
 handed : (c : Collected) → (pictureCollected c ≡ aloneAfter (jobCollected c) (jobCollected c .steps)) × JobFine (jobCollected c)
 handed c =
-    let w = hands-over (placeCollected c) (after-invariant (c .calls) (opened (c .store)) (opened-invariant (c .store) (c .long))) (c .number) (c .lent) (c .accepted) in
+    let w = hands-over (placeCollected c) (after-invariant (c .calls) (opened (c .rules) (c .store)) (opened-invariant (c .rules) (c .workable) (c .store) (c .long))) (c .number) (c .lent) (c .accepted) in
     (w .0, w .1 .sits .fine)
 
 pub job-bright-spots : (c : Collected) → BrightSpots (kernelOfJob (jobCollected c)) (jobCollected c .width) (jobCollected c .height)

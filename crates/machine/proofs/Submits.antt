@@ -1,7 +1,7 @@
 -- A submit at a place with the invariant: its answer is the one that the calls and answers before it give, and it keeps the
 -- invariant. Assumes nothing.
 use mathlib.Core.Path.{_≡_, refl, sym, _∙_, ap}
-use mathlib.Core.Bool.{Bool, true, false, not, true≢false}
+use mathlib.Core.Bool.{Bool, true, false, true≢false}
 use mathlib.Core.Logic.{inl, inr, ⊎-elim}
 use mathlib.Core.List.{List, [], _∷_}
 use Prim.Native.Nat.{ℕ, suc, _+_, _-_, _*_, _≤_}
@@ -21,7 +21,7 @@ use Rattle.covariance.specs.declared.Shape.{Shape}
 use Rattle.averaging.specs.Steps.{iterate}
 use Rattle.machine.specs.declared.Answer.the-variants.{Job, Refused}
 use Rattle.machine.specs.declared.Found.the-variants.{At}
-use Rattle.machine.specs.Slots.{slotCount, slotAt, isEmpty, nextPlace}
+use Rattle.machine.specs.Slots.{slotAt, isEmpty, nextPlace}
 use Rattle.machine.specs.Store.{put, bufferAfter}
 use Rattle.machine.specs.Calls.{submit, Result, lastNumber, freeBuffers, submittedChecks, submitChecks, newSlot, submitAt, submitOf}
 use Rattle.machine.specs.History.{Event, Place, accepts, held, numbers, howMany, jobCount, heldCount}
@@ -30,35 +30,33 @@ use Rattle.machine.proofs.Search.{Hit, hit, distance, next-lt}
 use Rattle.machine.proofs.Parts.{length-put, part-own, part-other}
 use Rattle.machine.proofs.Words.{Untouched, same-held, started-held, started-job, started-ticks, many-same}
 use Rattle.limits.proofs.Checks.{AllHold, all-hold}
-use Rattle.machine.proofs.Counts.{count-le, some-empty, free-test}
-use Rattle.machine.proofs.Invariant.{Invariant, Sits, JobFine, Change, changed, is-usable, block, within-block, from-block, fits-le}
+use Rattle.machine.proofs.Counts.{some-empty}
+use Rattle.machine.proofs.Rules.{block, within-block, from-block, in-store, free-test}
+use Rattle.machine.proofs.Invariant.{Invariant, size, Sits, JobFine, Change, changed, is-usable, fits-le}
 use Rattle.machine.proofs.Served.{Served, sets, refused-call}
 
 module _ (p : Place) (v : Invariant p) (shape : Shape) (k w h : ℕ) (pixels : List ℕ) where
-  held-le : heldCount (p .history) ≤ slotCount
-  held-le = let c = count-le (λ s. not (isEmpty s)) (p .service .slots) slotCount in omega (arith, v .counted)
-
   -- the checks, with what the calls and answers say in the place of the record
   abbrev tests : List Check
   tests =
       submittedChecks shape k w h pixels
-      ((ltb (heldCount (p .history)) slotCount otherwise NoFreeBuffers) ∷ (ltb (jobCount (p .history)) lastNumber otherwise NumbersUsedUp) ∷ [])
+      ((ltb (heldCount (p .history)) (size p) otherwise NoFreeBuffers) ∷ (ltb (jobCount (p .history)) lastNumber otherwise NumbersUsedUp) ∷ [])
 
   abbrev checks : Outcome
   checks = firstRefusal tests
 
-  checks-are : submitChecks (p .service) (p .store) shape k w h pixels ≡ checks
+  checks-are : submitChecks (p .rules) (p .service) (p .store) shape k w h pixels ≡ checks
   unfolding submitChecks freeBuffers
-  checks-are = rw (is-usable p v, v .counted, free-test (heldCount (p .history)) held-le, v .last)
+  checks-are = rw (is-usable p v, v .counted, free-test (p .rules) (v .workable) (heldCount (p .history)), v .last)
 
-  -- the empty slot that is found where fewer than eight jobs are held
-  place : ltb (heldCount (p .history)) slotCount ≡ true → Hit isEmpty (p .service .slots) slotCount (nextPlace slotCount (p .service .filled)) slotCount (slotCount - 1)
+  -- the empty slot that is found where fewer jobs are held than there are slots
+  place : ltb (heldCount (p .history)) (size p) ≡ true → Hit isEmpty (p .service .slots) (size p) (nextPlace (size p) (p .service .filled)) (size p) (size p - 1)
   place e =
-      let l = ltb-true (heldCount (p .history)) slotCount e in
-      let s = some-empty (p .service .slots) slotCount (omega (arith, v .counted)) in
-      let start = next-lt slotCount (p .service .filled) (omega arith) in
-      let d = distance slotCount (nextPlace slotCount (p .service .filled)) (s .0) start (s .1) in
-      let g = hit isEmpty (p .service .slots) slotCount (s .0) (s .2) (s .1) slotCount (nextPlace slotCount (p .service .filled)) (d .0) start (d .1) (d .2) (omega arith) in
+      let l = ltb-true (heldCount (p .history)) (size p) e in
+      let s = some-empty (p .service .slots) (size p) (omega (arith, v .counted)) in
+      let start = next-lt (size p) (p .service .filled) (v .workable .some-slot) in
+      let d = distance (size p) (nextPlace (size p) (p .service .filled)) (s .0) start (s .1) in
+      let g = hit isEmpty (p .service .slots) (size p) (s .0) (s .2) (s .1) (size p) (nextPlace (size p) (p .service .filled)) (d .0) start (d .1) (d .2) (omega arith) in
       record { at = g .at; is = g .is; passes = g .passes; below = g .below; from = g .from; ahead = g .ahead; no-further = omega (arith, g .no-further, d .2) }
 
   abbrev number : ℕ
@@ -116,20 +114,20 @@ module _ (p : Place) (v : Invariant p) (shape : Shape) (k w h : ℕ) (pixels : L
           full = full;
         }
 
-    spot : Hit isEmpty (p .service .slots) slotCount (nextPlace slotCount (p .service .filled)) slotCount (slotCount - 1)
+    spot : Hit isEmpty (p .service .slots) (size p) (nextPlace (size p) (p .service .filled)) (size p) (size p - 1)
     spot = place (all .1 .1 .1 .1 .1 .1 .1 .0)
 
-    result : submitOf (p .service) (p .store) shape k w h pixels ≡ submitAt (p .service) (p .store) shape k w h pixels (At (spot .at))
+    result : submitOf (p .rules) (p .service) (p .store) shape k w h pixels ≡ submitAt (p .rules) (p .service) (p .store) shape k w h pixels (At (spot .at))
     unfolding submitOf
     result = rw (checks-are, fine, spot .is)
 
     was-empty : slotAt (p .service) (spot .at) .number ≡ 0
     was-empty = eqb-true (slotAt (p .service) (spot .at) .number) 0 (spot .passes)
 
-    room : bufferAfter (spot .at) 0 + length pixels ≤ length (p .store)
-    room = omega (arith, full, small, spot .below, v .long)
+    room : bufferAfter (p .rules) (spot .at) 0 + length pixels ≤ length (p .store)
+    room = rw (full, v .long) (in-store (p .rules) (v .workable) (spot .at) 0 (w * h) (spot .below) small)
 
-    sits : Sits (event ∷ p .history) (put (bufferAfter (spot .at) 0) pixels (p .store)) (spot .at) number (newSlot number shape k w h)
+    sits : Sits (p .rules) (event ∷ p .history) (put (bufferAfter (p .rules) (spot .at) 0) pixels (p .store)) (spot .at) number (newSlot number shape k w h)
     unfolding iterate
     sits =
         let j = started-job event (p .history) number starts-it in
@@ -141,7 +139,7 @@ module _ (p : Place) (v : Invariant p) (shape : Shape) (k w h : ℕ) (pixels : L
           is = rw (j, t, sub-zero k);
           few = rw t (omega arith);
           fine = rw j job-fine;
-          image = rw (j, t) (part-own (bufferAfter (spot .at) 0) (w * h) pixels (p .store) full (omega (arith, full, room)));
+          image = rw (j, t) (part-own (bufferAfter (p .rules) (spot .at) 0) (w * h) pixels (p .store) full (omega (arith, full, room)));
         }
 
     change : Change p (submit shape k w h pixels) (spot .at) number (newSlot number shape k w h)
@@ -152,11 +150,11 @@ module _ (p : Place) (v : Invariant p) (shape : Shape) (k w h : ℕ) (pixels : L
           before = inl was-empty;
           only = λ j g ne e. ⊎-elim (λ z. let q = sym (ap (λ s. s .number) z) ∙ e in omega arith) (λ z. let q = sym (ap (λ s. s .number) (z .1 .is)) ∙ e in omega (arith, z .1 .known, number-is)) (v .taken j g);
           others = λ n ne. rw result (is-new n ne);
-          long = rw result (length-put (bufferAfter (spot .at) 0) pixels (p .store) room ∙ v .long);
+          long = rw result (length-put (bufferAfter (p .rules) (spot .at) 0) pixels (p .store) room ∙ v .long);
           apart =
               λ j a n ne x y. rw result
-              (part-other block j (spot .at) (bufferAfter (spot .at) 0) a n pixels (p .store) room ne (from-block (spot .at) 0)
-              (within-block (spot .at) 0 (length pixels) (omega (arith, full, small))) x y);
+              (part-other (block (p .rules)) j (spot .at) (bufferAfter (p .rules) (spot .at) 0) a n pixels (p .store) room ne (from-block (p .rules) (v .workable) (spot .at) 0)
+              (within-block (p .rules) (v .workable) (spot .at) 0 (length pixels) (omega (arith, full, small))) x y);
           grows = rw (result, jobs-now) (omega arith);
           new = rw result (inr sits);
           filled = rw result (spot .below);
@@ -188,7 +186,7 @@ module _ (p : Place) (v : Invariant p) (shape : Shape) (k w h : ℕ) (pixels : L
         }
 
   refused : (code : ErrorCode) → checks ≡ O.Refused code
-      → submitOf (p .service) (p .store) shape k w h pixels ≡ record { answer = Refused code; service = p .service; store = p .store; lent = pixels }
+      → submitOf (p .rules) (p .service) (p .store) shape k w h pixels ≡ record { answer = Refused code; service = p .service; store = p .store; lent = pixels }
   unfolding submitOf
   refused code e = rw (checks-are, e)
 
@@ -196,5 +194,5 @@ module _ (p : Place) (v : Invariant p) (shape : Shape) (k w h : ℕ) (pixels : L
   submits-when O.Accepted e = submit-accepted e
   submits-when (O.Refused code) e = refused-call p v (submit shape k w h pixels) code (refused code e)
 
-  pub submits : Served p (submit shape k w h pixels) (submitAnswer (p .history) shape k w h pixels)
+  pub submits : Served p (submit shape k w h pixels) (submitAnswer (p .rules) (p .history) shape k w h pixels)
   submits = submits-when checks refl

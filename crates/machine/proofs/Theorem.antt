@@ -1,4 +1,4 @@
--- Demand 3, of every list of calls. Assumes nothing.
+-- Demand 3, of every list of calls, by any rules that a service can run by, and so by document 01's. Assumes nothing.
 use mathlib.Core.Path.{_≡_, sym, _∙_, ap}
 use mathlib.Core.Bool.{true, not}
 use mathlib.Core.Logic.{_⊎_, inl, inr, ⊎-elim, _↔_}
@@ -12,14 +12,16 @@ use Rattle.averaging.specs.Distances.{Entrywise, Distance}
 use Rattle.averaging.proofs.Distance.{distance}
 use Rattle.machine.specs.declared.Answer.the-variants.{Job, Idle}
 use Rattle.machine.specs.declared.FreeCount.the-variants.{Buffers}
-use Rattle.machine.specs.Slots.{slotCount, isEmpty, nextPlace}
-use Rattle.machine.specs.Store.{bufferCount, buffersPerSlot}
+use Rattle.machine.specs.Rules.{Rules, baseRules}
+use Rattle.machine.specs.Slots.{isEmpty, nextPlace}
+use Rattle.machine.specs.Store.{bufferCount, Workable}
 use Rattle.machine.specs.Calls.{Call, tick, collect, freeBuffers, freeCountOf}
 use Rattle.machine.specs.History.{Place, opened, after, since, kernelOfJob, aloneAfter, exactAfter, Submitted, jobOf, held, stepsLeft, finished, heldCount, withdrawnIn, ticksIn}
-use Rattle.machine.specs.Demand.{answerAt, handedOver, AsAlone, AtPlace, Demand3}
+use Rattle.machine.specs.Demand.{answerAt, handedOver, AsAlone, AtPlace, Demand3By, Demand3}
 use Rattle.machine.proofs.Search as S
 use Rattle.machine.proofs.Counts.{count-le}
-use Rattle.machine.proofs.Invariant.{Invariant, JobFine, in-order}
+use Rattle.machine.proofs.Rules.{base-workable}
+use Rattle.machine.proofs.Invariant.{Invariant, size, JobFine, in-order}
 use Rattle.machine.proofs.Submits.{submits}
 use Rattle.machine.proofs.Ticks.{Ticked, idled, served, ticked}
 use Rattle.machine.proofs.Ends.{seated, withdraws, collects, hands-over}
@@ -53,18 +55,18 @@ module _ (p : Place) (v : Invariant p) where
   serves-one (idled e s none) = inl (s .answered)
   serves-one (served i n e h s u l t d) = inr (n, d .answered, s .is-held, l)
 
-  in-time : (n : ℕ) (calls : List Call) → held (p .history) n ≡ true → ticksIn calls ≡ slotCount * stepsLeft (p .history) n
+  in-time : (n : ℕ) (calls : List Call) → held (p .history) n ≡ true → ticksIn calls ≡ size p * stepsLeft (p .history) n
       → (finished (after p calls .history) n ≡ true) ⊎ (withdrawnIn (since p calls) n ≡ true)
   in-time n calls h t =
       let s = seated p v n h in
-      let d = S.distance slotCount (nextPlace slotCount (p .service .served)) (s .at) (S.next-lt slotCount (p .service .served) (omega arith)) (s .below) in
+      let d = S.distance (size p) (nextPlace (size p) (p .service .served)) (s .at) (S.next-lt (size p) (p .service .served) (v .workable .some-slot)) (s .below) in
       ⊎-elim (λ e. inl (eq-eqb (stepsLeft (after p calls .history) n) 0 e)) inr
       (waits calls p v n (s .at) (d .0)
       (record { is-held = h; at = s .below; number = ap (λ x. x .number) (s .sits .is); ahead = d .1; below = d .2 }) (s .sits .known)
       (omega (arith, d .2)))
 
   -- what a collect hands over, with what its job gets alone
-  hands : (n : ℕ) (lent : List ℕ) → answerAt p (collect n lent) ≡ Job n → AsAlone (jobOf (p .history) n) (handedOver p n lent)
+  hands : (n : ℕ) (lent : List ℕ) → answerAt p (collect n lent) ≡ Job n → AsAlone (p .rules) (jobOf (p .history) n) (handedOver p n lent)
   hands n lent a =
       let job = jobOf (p .history) n in
       let w = hands-over p v n lent a in
@@ -73,14 +75,14 @@ module _ (p : Place) (v : Invariant p) where
         lone-run = w .0;
         within-half = rw (w .0) (near-exact job f);
         lone-service =
-            λ store mine long size. record {
-              calls-accepted = lone-accepted job f store long;
-              collect-accepted = lone-answer job f store long mine size;
-              hands-over-the-same = lone-picture job f store long mine size ∙ sym (w .0);
+            λ store mine long full. record {
+              calls-accepted = lone-accepted (p .rules) (v .workable) job f store long;
+              collect-accepted = lone-answer (p .rules) (v .workable) job f store long mine full;
+              hands-over-the-same = lone-picture (p .rules) (v .workable) job f store long mine full ∙ sym (w .0);
             };
       }
 
-  free-is : freeCountOf (p .service) ≡ Buffers (bufferCount - buffersPerSlot * heldCount (p .history))
+  free-is : freeCountOf (p .rules) (p .service) ≡ Buffers (bufferCount (p .rules) - p .rules .buffersPerSlot * heldCount (p .history))
   unfolding freeCountOf freeBuffers
   free-is = rw (in-order p v, v .counted)
 
@@ -99,10 +101,16 @@ module _ (p : Place) (v : Invariant p) where
             (stays-finished calls p v n (seated p v n h .sits .known) (eqb-true (stepsLeft (p .history) n) 0 f));
         free-buffers = free-is;
         numbers-given = v .given;
-        at-most-eight = let c = count-le (λ s. not (isEmpty s)) (p .service .slots) slotCount in omega (arith, v .counted);
+        at-most-all-slots = let c = count-le (λ s. not (isEmpty s)) (p .service .slots) (size p) in omega (arith, v .counted);
         ticks-within = λ n h. seated p v n h .sits .few;
         unchanged = λ c. answers p v c .1 .unchanged;
       }
 
+-- BY ANY RULES THAT A SERVICE CAN RUN BY
+pub demand-3-by : (rules : Rules) → Workable rules → Demand3By rules
+demand-3-by rules workable store long calls =
+    at-place (after (opened rules store) calls) (after-invariant calls (opened rules store) (opened-invariant rules workable store long))
+
+-- and so by document 01's
 pub demand-3 : Demand3
-demand-3 store long calls = at-place (after (opened store) calls) (after-invariant calls (opened store) (opened-invariant store long))
+demand-3 = demand-3-by baseRules base-workable

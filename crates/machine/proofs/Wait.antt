@@ -1,11 +1,11 @@
--- The wait. A job with steps left is at most a round away from being served: with d slots before it, 8 × (steps left) + d
--- falls with every tick, and no other call makes it grow. Assumes nothing.
+-- The wait, for any number of slots. A job with steps left is at most a round away from being served: with d slots before it,
+-- (slots) × (steps left) + d falls with every tick, and no other call makes it grow. Assumes nothing.
 use mathlib.Core.Path.{_≡_, refl, sym, _∙_, ap, subst}
 use mathlib.Core.Bool.{Bool, true, false, _&&_, _||_, true≢false}
 use mathlib.Core.Logic.{_⊎_, inl, inr, ⊎-elim}
 use mathlib.Core.List.{List, [], _∷_, _++_}
-use Prim.Native.Nat.{ℕ, _+_, _-_, _*_, _≤_, _<_}
-use native.Mathlib.Nat.{le-trans}
+use Prim.Native.Nat.{ℕ, zero, suc, _+_, _-_, _*_, _≤_, _<_}
+use native.Mathlib.Nat.{le-trans, mul-suc, zero-add}
 use native.Mathlib.Omega.{arith}
 use borrow.Author.Tests.{eq-eqb, ne-eqb, eqb-true, eqb-false, lt-ltb}
 use lib.Dec.{eqb}
@@ -14,13 +14,13 @@ use Rattle.limits.specs.declared.ErrorCode.the-variants.{StepsAreLeft}
 use Rattle.machine.specs.declared.Slot.{Slot}
 use Rattle.machine.specs.declared.Answer.the-variants.{Refused}
 use Rattle.machine.specs.declared.Found.the-variants.{At}
-use Rattle.machine.specs.Slots.{slotCount, emptySlot, slotAt, hasStepsLeft, nextPlace}
+use Rattle.machine.specs.Slots.{emptySlot, slotAt, hasStepsLeft, nextPlace}
 use Rattle.machine.specs.Calls.{Call, submit, tick, collect, withdraw, servedPlace}
 use Rattle.machine.specs.History.{Event, Place, next, eventOf, after, since, accepts, answersNumber, serves, ends, withdrawsBy, jobOf, held, ticksOf, stepsLeft, jobCount, withdrawnIn, oneForTick, ticksIn}
 use Rattle.machine.specs.Demand.{answerAt, collectAnswer}
 use Rattle.machine.proofs.Search.{Ahead, Hit, hit, nearer, round-again, next-lt}
 use Rattle.machine.proofs.Words.{untouched-by, same-held, same-job, same-ticks, kept-held, kept-job, served-ticks}
-use Rattle.machine.proofs.Invariant.{Invariant, Change}
+use Rattle.machine.proofs.Invariant.{Invariant, size, Change}
 use Rattle.machine.proofs.Served.{Effect, still, sets}
 use Rattle.machine.proofs.Ticks.{Ticked, idled, served, ticked}
 use Rattle.machine.proofs.Ends.{collects}
@@ -46,19 +46,29 @@ or-right : (a b : Bool) → b ≡ true → a || b ≡ true
 or-right true b e = refl
 or-right false b e = e
 
+-- ---- rounds
+-- a step left is a round of turns
+one-round : (size q r : ℕ) → r ≡ suc q → size * q + size ≡ size * r
+one-round size q r e = rw (e, mul-suc)
+
+-- fewer turns than a round are no step
+no-round : (size r d : ℕ) → 0 < size → size * r + d ≤ size - 1 → r ≡ 0
+no-round size zero d s h = refl
+no-round size (suc r) d s h = absurd (let e = mul-suc size r in omega arith)
+
 -- job n sits in slot i, d slots after the one to be looked at next
 pub record Waiting (p : Place) (n i d : ℕ) : Type 0 where
   pub is-held : held (p .history) n ≡ true
-  pub at : i < slotCount
+  pub at : i < size p
   pub number : slotAt (p .service) i .number ≡ n
-  pub ahead : Ahead slotCount (nextPlace slotCount (p .service .served)) i d
-  pub below : d < slotCount
+  pub ahead : Ahead (size p) (nextPlace (size p) (p .service .served)) i d
+  pub below : d < size p
 
 -- what one call does to a job that waits: it was withdrawn, or it waits on and is no further from its end
 pub Onward : Place → Call → ℕ → ℕ → ℕ → Type 0
 Onward p c n i d =
     (withdrawsBy c (answerAt p c) n ≡ true)
-    ⊎ ((e : ℕ) × Waiting (next p c) n i e × (slotCount * stepsLeft (next p c .history) n + e + oneForTick c ≤ slotCount * stepsLeft (p .history) n + d))
+    ⊎ ((e : ℕ) × Waiting (next p c) n i e × (size p * stepsLeft (next p c .history) n + e + oneForTick c ≤ size p * stepsLeft (p .history) n + d))
 
 module _ (p : Place) (v : Invariant p) (n i d : ℕ) (x : Waiting p n i d) (left : 0 < stepsLeft (p .history) n) where
   positive : 0 < n
@@ -130,8 +140,8 @@ module _ (p : Place) (v : Invariant p) (n i d : ℕ) (x : Waiting p n i d) (left
       rw (ap (λ (s : Slot). s .left) (z .1 .is), q) left)
       (v .taken i (x .at)))
 
-  found : Hit hasStepsLeft (p .service .slots) slotCount (nextPlace slotCount (p .service .served)) slotCount d
-  found = hit hasStepsLeft (p .service .slots) slotCount i passes (x .at) slotCount (nextPlace slotCount (p .service .served)) d (next-lt slotCount (p .service .served) (omega arith)) (x .ahead) (x .below) (omega arith)
+  found : Hit hasStepsLeft (p .service .slots) (size p) (nextPlace (size p) (p .service .served)) (size p) d
+  found = hit hasStepsLeft (p .service .slots) (size p) i passes (x .at) (size p) (nextPlace (size p) (p .service .served)) d (next-lt (size p) (p .service .served) (v .workable .some-slot)) (x .ahead) (x .below) (omega arith)
 
   held-on : held (next p tick .history) n ≡ true
   held-on = kept-held (eventOf p tick) (p .history) n refl refl ∙ x .is-held
@@ -141,40 +151,40 @@ module _ (p : Place) (v : Invariant p) (n i d : ℕ) (x : Waiting p n i d) (left
   tick-onward (idled e s none) = absurd (let z = none n (x .is-held) in omega arith)
   tick-onward (served k m e h s u l turn done) =
       let here : found .at ≡ k = same (found .is) e in
-      go (eqb i k) refl (subst (λ j. Ahead slotCount (nextPlace slotCount (p .service .served)) j (found .from)) here (found .ahead))
+      go (eqb i k) refl (subst (λ j. Ahead (size p) (nextPlace (size p) (p .service .served)) j (found .from)) here (found .ahead))
     where
-      same : servedPlace (p .service) ≡ At (found .at) → servedPlace (p .service) ≡ At k → found .at ≡ k
+      same : servedPlace (p .rules) (p .service) ≡ At (found .at) → servedPlace (p .rules) (p .service) ≡ At k → found .at ≡ k
       same f g = cc
 
       job-on : jobOf (next p tick .history) n ≡ jobOf (p .history) n
       job-on = kept-job (eventOf p tick) (p .history) n refl
 
-      go : (b : Bool) → eqb i k ≡ b → Ahead slotCount (nextPlace slotCount (p .service .served)) k (found .from)
+      go : (b : Bool) → eqb i k ≡ b → Ahead (size p) (nextPlace (size p) (p .service .served)) k (found .from)
           → (withdrawsBy tick (answerAt p tick) n ≡ true)
-          ⊎ ((e : ℕ) × Waiting (next p tick) n i e × (slotCount * stepsLeft (next p tick .history) n + e + 1 ≤ slotCount * stepsLeft (p .history) n + d))
+          ⊎ ((e : ℕ) × Waiting (next p tick) n i e × (size p * stepsLeft (next p tick .history) n + e + 1 ≤ size p * stepsLeft (p .history) n + d))
       go true q a =
           let here = eqb-true i k q in
           let mine : n ≡ m = sym (x .number) ∙ ap (λ j. slotAt (p .service) j .number) here ∙ ap (λ (s : Slot). s .number) (s .is) in
           let serves-it : serves (eventOf p tick) n ≡ true = ap (λ a. answersNumber a n) (done .answered) ∙ eq-eqb m n (sym mine) in
           let ticks-on = served-ticks (eventOf p tick) (p .history) n refl serves-it in
           let now-here : slotAt (next p tick .service) k .number ≡ n =
-          rw (u .slots, getD-set-same (p .service .slots) k _ emptySlot (omega (arith, h, v .eight))) (ap (λ (s : Slot). s .number) (s .is) ∙ sym mine) in
+          rw (u .slots, getD-set-same (p .service .slots) k _ emptySlot (omega (arith, h, v .as-many))) (ap (λ (s : Slot). s .number) (s .is) ∙ sym mine) in
           inr (
-            slotCount - 1,
+            size p - 1,
             record {
               is-held = held-on;
               at = x .at;
               number = rw here now-here;
-              ahead = rw (turn, here) (round-again slotCount k h);
-              below = omega arith;
+              ahead = rw (turn, here) (round-again (size p) k h);
+              below = let some = v .workable .some-slot in omega arith;
             },
-            rw (job-on, ticks-on) (omega arith),
+            rw (job-on, ticks-on) (let r = one-round (size p) (jobOf (p .history) n .steps - (ticksOf (p .history) n + 1)) (stepsLeft (p .history) n) (omega arith) in let some = v .workable .some-slot in omega arith),
           )
       go false q a =
           let ne = eqb-false i k q in
           let other : (n ≡ m → ⊥) = λ z. ne (v .once i k (x .at) h (let g = positive in omega (arith, x .number)) (x .number ∙ z ∙ sym (ap (λ (s : Slot). s .number) (s .is)))) in
           let y = u .others n other in
-          let w = nearer slotCount (nextPlace slotCount (p .service .served)) k i (found .from) d (next-lt slotCount (p .service .served) (omega arith)) h (x .at) ne a (x .ahead) (found .no-further) in
+          let w = nearer (size p) (nextPlace (size p) (p .service .served)) k i (found .from) d (next-lt (size p) (p .service .served) (v .workable .some-slot)) h (x .at) ne a (x .ahead) (found .no-further) in
           inr (
             w .0,
             record {
@@ -201,16 +211,16 @@ module _ (p : Place) (v : Invariant p) (n i d : ℕ) (x : Waiting p n i d) (left
       by-effect (withdraw m) refl (s .turn refl) (λ e. inl e) (λ e. true≢false (sym e)) (s .effect)
 
 pub waits : (cs : List Call) (p : Place) → Invariant p → (n i d : ℕ) → Waiting p n i d → n ≤ jobCount (p .history)
-    → slotCount * stepsLeft (p .history) n + d ≤ ticksIn cs + (slotCount - 1)
+    → size p * stepsLeft (p .history) n + d ≤ ticksIn cs + (size p - 1)
     → (stepsLeft (after p cs .history) n ≡ 0) ⊎ (withdrawnIn (since p cs) n ≡ true)
 unfolding after since ticksIn Onward
-waits [] p v n i d x k b = inl (omega arith)
+waits [] p v n i d x k b = inl (no-round (size p) (stepsLeft (p .history) n) d (v .workable .some-slot) (rw (zero-add (size p - 1)) at b))
 waits (c ∷ cs) p v n i d x k b =
     go (eqb (stepsLeft (p .history) n) 0) refl
     (λ e y l. waits cs (next p c) (next-invariant p v c) n i e y (le-trans k (jobs-grow p v c)) l)
   where
     go : (t : Bool) → eqb (stepsLeft (p .history) n) 0 ≡ t
-        → ((e : ℕ) → Waiting (next p c) n i e → slotCount * stepsLeft (next p c .history) n + e ≤ ticksIn cs + (slotCount - 1)
+        → ((e : ℕ) → Waiting (next p c) n i e → size p * stepsLeft (next p c .history) n + e ≤ ticksIn cs + (size p - 1)
         → (stepsLeft (after (next p c) cs .history) n ≡ 0) ⊎ (withdrawnIn (since (next p c) cs) n ≡ true))
         → (stepsLeft (after (next p c) cs .history) n ≡ 0) ⊎ (withdrawnIn (since (next p c) cs ++ (eventOf p c ∷ [])) n ≡ true)
     go true z f = inl (stays-finished (c ∷ cs) p v n k (eqb-true (stepsLeft (p .history) n) 0 z))

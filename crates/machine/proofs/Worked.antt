@@ -1,6 +1,6 @@
 -- Lists of calls worked out by hand from document 01, with what it says is answered, and one computed proof that the definitions
 -- answer the same. They hold what demand 3 leaves open, such as the order in which seats are filled, and each definition by numbers
--- that do not come from the code. Assumes nothing.
+-- that do not come from the code. Two lists are by rules that no document has. Assumes nothing.
 use mathlib.Core.Path.{_≡_, refl}
 use mathlib.Core.Bool.{true, false}
 use mathlib.Core.List.{List, [], _∷_, _++_, map}
@@ -19,6 +19,7 @@ use Rattle.covariance.specs.Shapes.{varianceInRange, cosineInRange, squareInRan
 use Rattle.averaging.specs.Steps.{iterate, stepOf, weightedAt}
 use Rattle.machine.specs.declared.Slot.{Slot}
 use Rattle.machine.specs.declared.Service.{Service}
+use Rattle.machine.specs.Rules.{baseRules}
 use Rattle.machine.specs.Slots.{firstFrom, countOf, everySlot}
 use Rattle.machine.specs.Order.{allZero, filledFine, slotFine, inOrder, usable}
 use Rattle.machine.specs.Calls.{submit, tick, collect, withdraw, freeBuffers, submitChecks, submitOf, tickOf, collectChecks, collectOf, withdrawOf, freeCountOf}
@@ -68,7 +69,7 @@ oval long c s = Oval long half (record { cosine = c; sine = s })
 abbrev pub day : Worked
 day =
     record {
-      from = opened sevens;
+      from = opened baseRules sevens;
       lines =
           -- "Opening: all empty, last number 0, both named seats 7"
           stands (keeps (none ∷ none ∷ none ∷ none ∷ none ∷ none ∷ none ∷ none ∷ []) 0 7 7)
@@ -206,7 +207,7 @@ day =
 abbrev pub refusals : Worked
 refusals =
     record {
-      from = opened sevens;
+      from = opened baseRules sevens;
       lines =
           submit-refused (Round nan) 0 1 1 (1 ∷ []) 3
           ∷ submit-refused (Round (fin true 1 (pos 0))) 1 1 1 (1 ∷ []) 3
@@ -236,7 +237,7 @@ refusals =
 abbrev pub floats : Worked
 floats =
     record {
-      from = opened sevens;
+      from = opened baseRules sevens;
       lines =
           submits (Round one) 1 1 1 (3 ∷ []) 1
           ∷ submits (oval one one zero) 1 1 1 (3 ∷ []) 2
@@ -299,7 +300,7 @@ used-up =
 abbrev pub wrong-store : List ℕ → Worked
 wrong-store store =
     record {
-      from = opened store;
+      from = opened baseRules store;
       lines =
           submit-refused (Round nan) 1 1 1 (1 ∷ []) 2
           ∷ called tick 2 [] []
@@ -383,11 +384,78 @@ records =
     ∷ in-order (keeps (none ∷ none ∷ none ∷ none ∷ none ∷ none ∷ none ∷ none ∷ []) 3 0 0) 16
     ∷ []
 
+-- ---- by rules that no document has, with their numbers in the place of 8 and 2
+-- three slots of one buffer each: the opening names slot 2, slot i has buffer i, a tick goes from its one buffer to the same, a full
+-- service holds three jobs, and a record has named slots 0 to 2
+abbrev pub three-slots : Worked
+three-slots =
+    record {
+      from = opened (record { slotCount = 3; buffersPerSlot = 1 }) sevens;
+      lines =
+          stands (keeps (none ∷ none ∷ none ∷ []) 0 2 2)
+          ∷ free 3
+          ∷ submits along 2 2 1 (0 ∷ 16 ∷ []) 1
+          ∷ submits still 1 1 1 (5 ∷ []) 2
+          ∷ free 1
+          ∷ submits still 1 1 1 (8 ∷ []) 3
+          ∷ submit-refused still 1 1 1 (9 ∷ []) 12
+          ∷ free 0
+          ∷ stored 0 (0 ∷ 16 ∷ 7 ∷ [])
+          ∷ stored 1023 (7 ∷ 5 ∷ 7 ∷ [])
+          ∷ stored 2047 (7 ∷ 8 ∷ 7 ∷ [])
+          ∷ ticks 1
+          ∷ stored 0 (4 ∷ 12 ∷ 7 ∷ [])
+          ∷ ticks 2
+          ∷ ticks 3
+          ∷ ticks 1
+          ∷ idles
+          ∷ stored 0 (6 ∷ 10 ∷ 7 ∷ [])
+          ∷ stored 1023 (7 ∷ 5 ∷ 7 ∷ [])
+          ∷ collects 1 (9 ∷ 9 ∷ []) (6 ∷ 10 ∷ [])
+          ∷ stands
+          (keeps
+          (none ∷ seat 2 (pos 0) (pos 0) (pos 0) 1 0 1 1 ∷ seat 3 (pos 0) (pos 0) (pos 0) 1 0 1 1 ∷ [])
+          3 2 0)
+          ∷ submits still 1 1 1 (1 ∷ []) 4
+          ∷ stored 0 (1 ∷ 10 ∷ 7 ∷ [])
+          ∷ [];
+    }
+
+-- two slots of three buffers each: slot 1 has buffers 3, 4 and 5, and its steps go round them. `along` over four steps: M is 16384, 8192
+-- on either side of 65536, an eighth; the pixels 0 16 become 2 14, then 3.5 12.5, so 4 13, then 5.125 11.875, then 5.875 11.125
+abbrev pub two-slots : Worked
+two-slots =
+    record {
+      from = opened (record { slotCount = 2; buffersPerSlot = 3 }) sevens;
+      lines =
+          free 6
+          ∷ submits still 1 1 1 (5 ∷ []) 1
+          ∷ submits along 4 2 1 (0 ∷ 16 ∷ []) 2
+          ∷ free 0
+          ∷ submit-refused still 1 1 1 (9 ∷ []) 12
+          ∷ stored 3071 (7 ∷ 0 ∷ 16 ∷ 7 ∷ [])
+          ∷ ticks 1
+          ∷ stored 1023 (7 ∷ 5 ∷ 7 ∷ [])
+          ∷ ticks 2
+          ∷ stored 4095 (7 ∷ 2 ∷ 14 ∷ 7 ∷ [])
+          ∷ ticks 2
+          ∷ stored 5119 (7 ∷ 4 ∷ 13 ∷ 7 ∷ [])
+          ∷ ticks 2
+          ∷ stored 3071 (7 ∷ 5 ∷ 12 ∷ 7 ∷ [])
+          ∷ ticks 2
+          ∷ collects 2 (9 ∷ 9 ∷ []) (6 ∷ 11 ∷ [])
+          ∷ free 3
+          ∷ stands (keeps (seat 1 (pos 0) (pos 0) (pos 0) 1 0 1 1 ∷ none ∷ []) 2 1 1)
+          ∷ [];
+    }
+
 abbrev pub table : List Worked
 table =
     day
     ∷ refusals
     ∷ floats
+    ∷ three-slots
+    ∷ two-slots
     ∷ wrong-store (replicate 16383 7)
     ∷ wrong-store (replicate 16385 7)
     ∷ used-up

@@ -25,8 +25,9 @@ use Rattle.machine.specs.declared.FreeCount as F
 use Rattle.machine.specs.declared.FreeCount.{FreeCount}
 use Rattle.machine.specs.declared.Found.{Found}
 use Rattle.machine.specs.declared.Found.the-variants.{At, Nothing}
-use Rattle.machine.specs.Slots.{slotCount, emptySlot, slotAt, isEmpty, hasStepsLeft, hasNumber, nextPlace, firstFrom, countOf}
-use Rattle.machine.specs.Store.{bufferCount, buffersPerSlot, put, bufferAfter, stepsDone, currentImage}
+use Rattle.machine.specs.Rules.{Rules}
+use Rattle.machine.specs.Slots.{emptySlot, slotAt, isEmpty, hasStepsLeft, hasNumber, nextPlace, firstFrom, countOf}
+use Rattle.machine.specs.Store.{bufferCount, put, bufferAfter, stepsDone, currentImage}
 use Rattle.machine.specs.Order.{inOrder, usable}
 
 -- what a call leaves behind: its answer, the record, the store, and the picture that was lent to it
@@ -41,8 +42,8 @@ abbrev pub lastNumber : ℕ
 lastNumber = 2 ^ 64 - 1
 
 -- "Free buffers are 16 less 2 for each filled seat"
-unfoldable pub freeBuffers : Service → ℕ
-freeBuffers r = bufferCount - buffersPerSlot * countOf (λ s. not (isEmpty s)) (r .slots) slotCount
+unfoldable pub freeBuffers : Rules → Service → ℕ
+freeBuffers rules r = bufferCount rules - rules .buffersPerSlot * countOf (λ s. not (isEmpty s)) (r .slots) (rules .slotCount)
 
 -- ---- submit
 -- the checks of a submit from refusal 5 to 11, for the covariance of its shape and the number of pixels lent
@@ -63,17 +64,17 @@ submittedChecks shape k w h pixels rest =
     ∷ jobChecks (covarianceXX shape) (covarianceXY shape) (covarianceYY shape) k w h (length pixels) rest
 
 -- refusals 12 and 13
-abbrev pub roomChecks : Service → List Check
-roomChecks r =
-    (leb buffersPerSlot (freeBuffers r) otherwise NoFreeBuffers) ∷ (ltb (r .last) lastNumber otherwise NumbersUsedUp) ∷ []
+abbrev pub roomChecks : Rules → Service → List Check
+roomChecks rules r =
+    (leb (rules .buffersPerSlot) (freeBuffers rules r) otherwise NoFreeBuffers) ∷ (ltb (r .last) lastNumber otherwise NumbersUsedUp) ∷ []
 
-unfoldable pub submitChecks : Service → List ℕ → Shape → ℕ → ℕ → ℕ → List ℕ → Outcome
-submitChecks r store shape k w h pixels =
-    firstRefusal ((usable r store otherwise RecordOutOfOrder) ∷ submittedChecks shape k w h pixels (roomChecks r))
+unfoldable pub submitChecks : Rules → Service → List ℕ → Shape → ℕ → ℕ → ℕ → List ℕ → Outcome
+submitChecks rules r store shape k w h pixels =
+    firstRefusal ((usable rules r store otherwise RecordOutOfOrder) ∷ submittedChecks shape k w h pixels (roomChecks rules r))
 
 -- "the first empty seat counted on cyclically from the one after the seat last filled"
-abbrev pub emptyPlace : Service → Found
-emptyPlace r = firstFrom isEmpty (r .slots) slotCount (nextPlace slotCount (r .filled)) slotCount
+abbrev pub emptyPlace : Rules → Service → Found
+emptyPlace rules r = firstFrom isEmpty (r .slots) (rules .slotCount) (nextPlace (rules .slotCount) (r .filled)) (rules .slotCount)
 
 abbrev pub newSlot : ℕ → Shape → ℕ → ℕ → ℕ → Slot
 newSlot number shape k w h =
@@ -90,8 +91,8 @@ newSlot number shape k w h =
 
 -- "Submit fills [that seat], copies the picture to the start of buffer 2i, and gives the next number". After its checks there is an
 -- empty seat: the second case cannot occur (`submit-finds` of proofs/Finds).
-abbrev pub submitAt : Service → List ℕ → Shape → ℕ → ℕ → ℕ → List ℕ → Found → Result
-submitAt r store shape k w h pixels (At i) =
+abbrev pub submitAt : Rules → Service → List ℕ → Shape → ℕ → ℕ → ℕ → List ℕ → Found → Result
+submitAt rules r store shape k w h pixels (At i) =
     record {
       answer = A.Answer.Job (r .last + 1);
       service =
@@ -101,10 +102,10 @@ submitAt r store shape k w h pixels (At i) =
             filled = i;
             served = r .served;
           };
-      store = put (bufferAfter i 0) pixels store;
+      store = put (bufferAfter rules i 0) pixels store;
       lent = pixels;
     }
-submitAt r store shape k w h pixels Nothing =
+submitAt rules r store shape k w h pixels Nothing =
     record { answer = A.Answer.Refused NoFreeBuffers; service = r; store = store; lent = pixels }
 
 -- a refused call: "a refusal answers its number alone; record, store and every lent buffer keep their contents"
@@ -113,10 +114,10 @@ unlessRefused Accepted r store lent result = result
 unlessRefused (Refused code) r store lent result =
     record { answer = A.Answer.Refused code; service = r; store = store; lent = lent }
 
-unfoldable pub submitOf : Service → List ℕ → Shape → ℕ → ℕ → ℕ → List ℕ → Result
-submitOf r store shape k w h pixels =
-    unlessRefused (submitChecks r store shape k w h pixels) r store pixels
-    (submitAt r store shape k w h pixels (emptyPlace r))
+unfoldable pub submitOf : Rules → Service → List ℕ → Shape → ℕ → ℕ → ℕ → List ℕ → Result
+submitOf rules r store shape k w h pixels =
+    unlessRefused (submitChecks rules r store shape k w h pixels) r store pixels
+    (submitAt rules r store shape k w h pixels (emptyPlace rules r))
 
 -- ---- tick
 abbrev pub kernelOfSlot : Slot → Kernel
@@ -145,34 +146,34 @@ turnedAt r i left =
     record { slots = set (r .slots) i (withLeft (slotAt r i) left); last = r .last; filled = r .filled; served = i }
 
 -- "one step, from the buffer of the current picture to the seat's other one, w × h pixels only"
-abbrev pub nextImage : List ℕ → ℕ → Slot → List ℕ
-nextImage store i s = stepOf (kernelOfSlot s) (s .width) (s .height) (currentImage store i s)
+abbrev pub nextImage : Rules → List ℕ → ℕ → Slot → List ℕ
+nextImage rules store i s = stepOf (kernelOfSlot s) (s .width) (s .height) (currentImage rules store i s)
 
 -- "counted cyclically from the one after the seat last served, the first seat with steps left"
-abbrev pub servedPlace : Service → Found
-servedPlace r = firstFrom hasStepsLeft (r .slots) slotCount (nextPlace slotCount (r .served)) slotCount
+abbrev pub servedPlace : Rules → Service → Found
+servedPlace rules r = firstFrom hasStepsLeft (r .slots) (rules .slotCount) (nextPlace (rules .slotCount) (r .served)) (rules .slotCount)
 
 -- "it answers the job number. It answers idle where no seat has steps left, and only there, and then changes nothing"
-abbrev pub tickAt : Service → List ℕ → Found → Result
-tickAt r store (At i) =
+abbrev pub tickAt : Rules → Service → List ℕ → Found → Result
+tickAt rules r store (At i) =
     record {
       answer = A.Answer.Job (slotAt r i .number);
       service = turnedAt r i (slotAt r i .left - 1);
-      store = put (bufferAfter i (stepsDone (slotAt r i) + 1)) (nextImage store i (slotAt r i)) store;
+      store = put (bufferAfter rules i (stepsDone (slotAt r i) + 1)) (nextImage rules store i (slotAt r i)) store;
       lent = [];
     }
-tickAt r store Nothing = record { answer = A.Answer.Idle; service = r; store = store; lent = [] }
+tickAt rules r store Nothing = record { answer = A.Answer.Idle; service = r; store = store; lent = [] }
 
-abbrev pub tickChecks : Service → List ℕ → Outcome
-tickChecks r store = firstRefusal ((usable r store otherwise RecordOutOfOrder) ∷ [])
+abbrev pub tickChecks : Rules → Service → List ℕ → Outcome
+tickChecks rules r store = firstRefusal ((usable rules r store otherwise RecordOutOfOrder) ∷ [])
 
-unfoldable pub tickOf : Service → List ℕ → Result
-tickOf r store = unlessRefused (tickChecks r store) r store [] (tickAt r store (servedPlace r))
+unfoldable pub tickOf : Rules → Service → List ℕ → Result
+tickOf rules r store = unlessRefused (tickChecks rules r store) r store [] (tickAt rules r store (servedPlace rules r))
 
 -- ---- collect and withdraw
 -- "No seat has this job number (0 included)" is refusal 7
-abbrev pub placeOf : Service → ℕ → Found
-placeOf r number = cond (eqb number 0) Nothing (firstFrom (hasNumber number) (r .slots) slotCount 0 slotCount)
+abbrev pub placeOf : Rules → Service → ℕ → Found
+placeOf rules r number = cond (eqb number 0) Nothing (firstFrom (hasNumber number) (r .slots) (rules .slotCount) 0 (rules .slotCount))
 
 abbrev pub isFound : Found → Bool
 isFound (At i) = true
@@ -191,29 +192,29 @@ abbrev pub handOverChecks : Slot → ℕ → List Check
 handOverChecks s pixels =
     (not (hasStepsLeft s) otherwise StepsAreLeft) ∷ (fillsPicture pixels (s .width) (s .height) otherwise WrongLength) ∷ []
 
-unfoldable pub collectChecks : Service → List ℕ → ℕ → List ℕ → Outcome
-collectChecks r store number lent =
+unfoldable pub collectChecks : Rules → Service → List ℕ → ℕ → List ℕ → Outcome
+collectChecks rules r store number lent =
     firstRefusal
-    ((usable r store otherwise RecordOutOfOrder)
-    ∷ (isFound (placeOf r number) otherwise NoSuchJob)
-    ∷ handOverChecks (slotFound r (placeOf r number)) (length lent))
+    ((usable rules r store otherwise RecordOutOfOrder)
+    ∷ (isFound (placeOf rules r number) otherwise NoSuchJob)
+    ∷ handOverChecks (slotFound r (placeOf rules r number)) (length lent))
 
 -- "Collect writes it out and empties the seat .. neither changes the store". After its checks the job was found: the second case
 -- cannot occur (`collect-finds`).
-abbrev pub collectAt : Service → List ℕ → ℕ → List ℕ → Found → Result
-collectAt r store number lent (At i) =
-    record { answer = A.Answer.Job number; service = emptied r i; store = store; lent = currentImage store i (slotAt r i) }
-collectAt r store number lent Nothing =
+abbrev pub collectAt : Rules → Service → List ℕ → ℕ → List ℕ → Found → Result
+collectAt rules r store number lent (At i) =
+    record { answer = A.Answer.Job number; service = emptied r i; store = store; lent = currentImage rules store i (slotAt r i) }
+collectAt rules r store number lent Nothing =
     record { answer = A.Answer.Refused NoSuchJob; service = r; store = store; lent = lent }
 
-unfoldable pub collectOf : Service → List ℕ → ℕ → List ℕ → Result
-collectOf r store number lent =
-    unlessRefused (collectChecks r store number lent) r store lent (collectAt r store number lent (placeOf r number))
+unfoldable pub collectOf : Rules → Service → List ℕ → ℕ → List ℕ → Result
+collectOf rules r store number lent =
+    unlessRefused (collectChecks rules r store number lent) r store lent (collectAt rules r store number lent (placeOf rules r number))
 
 -- a withdraw is lent no store, so refusal 2 is the record's half alone
-abbrev pub withdrawChecks : Service → ℕ → Outcome
-withdrawChecks r number =
-    firstRefusal ((inOrder r otherwise RecordOutOfOrder) ∷ (isFound (placeOf r number) otherwise NoSuchJob) ∷ [])
+abbrev pub withdrawChecks : Rules → Service → ℕ → Outcome
+withdrawChecks rules r number =
+    firstRefusal ((inOrder rules r otherwise RecordOutOfOrder) ∷ (isFound (placeOf rules r number) otherwise NoSuchJob) ∷ [])
 
 -- "withdraw empties the seat, finished or not". After its checks the job was found: the second case cannot occur
 -- (`withdraw-finds`).
@@ -223,20 +224,20 @@ withdrawAt r store number (At i) =
 withdrawAt r store number Nothing =
     record { answer = A.Answer.Refused NoSuchJob; service = r; store = store; lent = [] }
 
-unfoldable pub withdrawOf : Service → List ℕ → ℕ → Result
-withdrawOf r store number =
-    unlessRefused (withdrawChecks r number) r store [] (withdrawAt r store number (placeOf r number))
+unfoldable pub withdrawOf : Rules → Service → List ℕ → ℕ → Result
+withdrawOf rules r store number =
+    unlessRefused (withdrawChecks rules r number) r store [] (withdrawAt r store number (placeOf rules r number))
 
 -- ---- the free count, which is lent no store
-abbrev pub countChecks : Service → Outcome
-countChecks r = firstRefusal ((inOrder r otherwise RecordOutOfOrder) ∷ [])
+abbrev pub countChecks : Rules → Service → Outcome
+countChecks rules r = firstRefusal ((inOrder rules r otherwise RecordOutOfOrder) ∷ [])
 
 abbrev pub freeCountWith : Outcome → ℕ → FreeCount
 freeCountWith Accepted n = F.FreeCount.Buffers n
 freeCountWith (Refused code) n = F.FreeCount.Refused code
 
-unfoldable pub freeCountOf : Service → FreeCount
-freeCountOf r = freeCountWith (countChecks r) (freeBuffers r)
+unfoldable pub freeCountOf : Rules → Service → FreeCount
+freeCountOf rules r = freeCountWith (countChecks rules r) (freeBuffers rules r)
 
 -- ---- all of them as one function
 pub data Call : Type 0 where
@@ -245,8 +246,8 @@ pub data Call : Type 0 where
   collect : ℕ → List ℕ → Call
   withdraw : ℕ → Call
 
-abbrev pub callOf : Service → List ℕ → Call → Result
-callOf r store (submit shape k w h pixels) = submitOf r store shape k w h pixels
-callOf r store tick = tickOf r store
-callOf r store (collect number lent) = collectOf r store number lent
-callOf r store (withdraw number) = withdrawOf r store number
+abbrev pub callOf : Rules → Service → List ℕ → Call → Result
+callOf rules r store (submit shape k w h pixels) = submitOf rules r store shape k w h pixels
+callOf rules r store tick = tickOf rules r store
+callOf rules r store (collect number lent) = collectOf rules r store number lent
+callOf rules r store (withdraw number) = withdrawOf rules r store number

@@ -17,8 +17,8 @@ use Rattle.averaging.specs.Distances.{Entrywise, Distance}
 use Rattle.machine.specs.declared.Answer.{Answer}
 use Rattle.machine.specs.declared.Answer.the-variants.{Job, Idle, Refused}
 use Rattle.machine.specs.declared.FreeCount.the-variants.{Buffers}
-use Rattle.machine.specs.Slots.{slotCount}
-use Rattle.machine.specs.Store.{bufferCount, buffersPerSlot, storeLength}
+use Rattle.machine.specs.Rules.{Rules, baseRules}
+use Rattle.machine.specs.Store.{bufferCount, storeLength}
 use Rattle.machine.specs.Calls.{Call, submit, tick, collect, withdraw, submittedChecks, lastNumber, freeCountOf}
 use Rattle.machine.specs.History.{Event, Place, opened, next, eventOf, after, since, accepts, Submitted, kernelOfJob, aloneAfter, exactAfter, jobOf, held, ticksOf, stepsLeft, finished, numbers, jobCount, heldCount, withdrawnIn, ticksIn}
 
@@ -29,15 +29,15 @@ numberUnless (O.Outcome.Refused code) n = Refused code
 
 -- "A submit is accepted where no refusal from 3 to 11 in checking order applies to it, fewer jobs are held than there are
 -- seats, and fewer than 2^64 − 1 jobs came before it"
-abbrev pub submitOutcome : List Event → Shape → ℕ → ℕ → ℕ → List ℕ → Outcome
-submitOutcome es shape k w h pixels =
+abbrev pub submitOutcome : Rules → List Event → Shape → ℕ → ℕ → ℕ → List ℕ → Outcome
+submitOutcome rules es shape k w h pixels =
     firstRefusal
     (submittedChecks shape k w h pixels
-    ((ltb (heldCount es) slotCount otherwise NoFreeBuffers) ∷ (ltb (jobCount es) lastNumber otherwise NumbersUsedUp) ∷ []))
+    ((ltb (heldCount es) (rules .slotCount) otherwise NoFreeBuffers) ∷ (ltb (jobCount es) lastNumber otherwise NumbersUsedUp) ∷ []))
 
 -- it answers the next number
-abbrev pub submitAnswer : List Event → Shape → ℕ → ℕ → ℕ → List ℕ → Answer
-submitAnswer es shape k w h pixels = numberUnless (submitOutcome es shape k w h pixels) (jobCount es + 1)
+abbrev pub submitAnswer : Rules → List Event → Shape → ℕ → ℕ → ℕ → List ℕ → Answer
+submitAnswer rules es shape k w h pixels = numberUnless (submitOutcome rules es shape k w h pixels) (jobCount es + 1)
 
 -- "While it is held, a withdraw of it is accepted"
 abbrev pub withdrawOutcome : List Event → ℕ → Outcome
@@ -97,48 +97,54 @@ pub record LoneService (end : Place) (mine same : List ℕ) : Type 0 where
   pub hands-over-the-same : handedOver end 1 mine ≡ same
 
 -- what is claimed of the picture that a collect hands over for a job
-pub record AsAlone (job : Submitted) (handed : List ℕ) : Type 0 where
+pub record AsAlone (rules : Rules) (job : Submitted) (handed : List ℕ) : Type 0 where
   -- "Alone it gets its picture after k steps of its kernel, each rounded as above"
   pub lone-run : handed ≡ aloneAfter job (job .steps)
   -- "each pixel that a collect hands over for a job of k steps lies within k/2 units of an exact run"
   pub within-half : Entrywise (Distance (kernelOfJob job .sum) (job .steps)) handed (exactAfter job (job .steps))
   -- "A service opened for it only .. hands over the same", whatever its store and the picture lent to its collect held
   pub lone-service : (store mine : List ℕ) → length store ≡ storeLength → length mine ≡ job .width * job .height
-      → LoneService (after (opened store) (loneCalls job)) mine handed
+      → LoneService (after (opened rules store) (loneCalls job)) mine handed
 
 -- what is claimed at a place of the list, of whatever is called there. An event in mid-list is a call at the place after those
 -- before it, and those are a list too: so what is claimed at the place after any list is claimed of every event of every list.
 pub record AtPlace (p : Place) : Type 0 where
   pub submit-answer : (shape : Shape) (k w h : ℕ) (pixels : List ℕ)
-      → answerAt p (submit shape k w h pixels) ≡ submitAnswer (p .history) shape k w h pixels
+      → answerAt p (submit shape k w h pixels) ≡ submitAnswer (p .rules) (p .history) shape k w h pixels
   pub withdraw-answer : (n : ℕ) → answerAt p (withdraw n) ≡ withdrawAnswer (p .history) n
   pub collect-answer : (n : ℕ) (lent : List ℕ) → answerAt p (collect n lent) ≡ collectAnswer (p .history) n lent
   -- what an accepted collect hands over is what its job gets alone
   pub handed-over : (n : ℕ) (lent : List ℕ) → answerAt p (collect n lent) ≡ Job n
-      → AsAlone (jobOf (p .history) n) (handedOver p n lent)
+      → AsAlone (p .rules) (jobOf (p .history) n) (handedOver p n lent)
   -- a tick answers idle exactly where each held job is finished; any other tick answers a held job that has steps left
   pub tick-idle : (answerAt p tick ≡ Idle) ↔ ((n : ℕ) → held (p .history) n ≡ true → finished (p .history) n ≡ true)
   pub tick-serves : (answerAt p tick ≡ Idle)
       ⊎ ((n : ℕ) × (answerAt p tick ≡ Job n) × (held (p .history) n ≡ true) × (0 < stepsLeft (p .history) n))
   -- "where a held job has r steps left and 8 × r more ticks follow in the list, it is finished or was withdrawn by the last
-  -- of them, whatever calls stand between"
+  -- of them, whatever calls stand between": 8 are the slots
   pub wait : (n : ℕ) (calls : List Call) → held (p .history) n ≡ true
-      → ticksIn calls ≡ slotCount * stepsLeft (p .history) n
+      → ticksIn calls ≡ p .rules .slotCount * stepsLeft (p .history) n
       → (finished (after p calls .history) n ≡ true) ⊎ (withdrawnIn (since p calls) n ≡ true)
   -- "It is finished when none are left, and stays so when collected": after whatever calls
   pub stays-finished : (n : ℕ) (calls : List Call) → held (p .history) n ≡ true → finished (p .history) n ≡ true
       → finished (after p calls .history) n ≡ true
-  -- "Free buffers at a place are what the free count, called there as well, answers": 16 less 2 for each job held
-  pub free-buffers : freeCountOf (p .service) ≡ Buffers (bufferCount - buffersPerSlot * heldCount (p .history))
+  -- "Free buffers at a place are what the free count, called there as well, answers": 16, those of all slots, less 2, those of one,
+  -- for each job held
+  pub free-buffers : freeCountOf (p .rules) (p .service) ≡ Buffers (bufferCount (p .rules) - p .rules .buffersPerSlot * heldCount (p .history))
   -- "Numbers are not given twice": those given so far are 1, 2, 3 and so on
   pub numbers-given : numbers (p .history) ≡ countdown (jobCount (p .history))
-  pub at-most-eight : heldCount (p .history) ≤ slotCount
+  pub at-most-all-slots : heldCount (p .history) ≤ p .rules .slotCount
   -- the steps left are never fewer than none
   pub ticks-within : (n : ℕ) → held (p .history) n ≡ true → ticksOf (p .history) n ≤ jobOf (p .history) n .steps
   -- "record, store and every lent buffer keep their contents", of a refused call and of an idle tick
   pub unchanged : (c : Call) → accepts (answerAt p c) ≡ false
       → (next p c .service ≡ p .service) × (next p c .store ≡ p .store) × (lentAfter p c ≡ lentTo c)
 
--- "The list starts with the opening's record and a store of 16,384 pixels of any value": at the place after any list of calls
+-- "The list starts with the opening's record and a store of 16,384 pixels of any value": at the place after any list of calls, by
+-- given rules from the opening on
+abbrev pub Demand3By : Rules → Type 0
+Demand3By rules = (store : List ℕ) → length store ≡ storeLength → (calls : List Call) → AtPlace (after (opened rules store) calls)
+
+-- by document 01's rules: 8 slots of 2 buffers each
 abbrev pub Demand3 : Type 0
-Demand3 = (store : List ℕ) → length store ≡ storeLength → (calls : List Call) → AtPlace (after (opened store) calls)
+Demand3 = Demand3By baseRules

@@ -16,6 +16,7 @@ use Rattle.covariance.specs.declared.Shape.{Shape}
 use Rattle.covariance.specs.Shapes.{variancesFine, directionFine, covarianceXX, covarianceXY, covarianceYY}
 use Rattle.machine.specs.declared.Service.{Service}
 use Rattle.machine.specs.declared.Answer.the-variants.{Refused}
+use Rattle.machine.specs.Rules.{Rules}
 use Rattle.machine.specs.Order.{usable}
 use Rattle.machine.specs.Store.{storeLength}
 use Rattle.machine.specs.Calls.{Call, submit, submitOf}
@@ -38,9 +39,9 @@ pub record OnlyNoKernel (shape : Shape) (k w h : ℕ) (pixels : List ℕ) : Type
   pub earlier : firstRefusal (earlierChecks shape k w h pixels) ≡ O.Accepted
   pub no-weights : Weights (covarianceXX shape) (covarianceXY shape) (covarianceYY shape) (unitsOf k) → ⊥
 
--- of any record and any store; and at the place after any list of calls from the opening on
-pub record ElevenExactly : Type 0 where
+-- by given rules, of any record and any store; and at the place after any list of calls from the opening on
+pub record ElevenExactly (rules : Rules) : Type 0 where
   pub called : (r : Service) (store : List ℕ) (shape : Shape) (k w h : ℕ) (pixels : List ℕ)
-      → (submitOf r store shape k w h pixels .answer ≡ Refused NoKernel) ↔ ((usable r store ≡ true) × OnlyNoKernel shape k w h pixels)
+      → (submitOf rules r store shape k w h pixels .answer ≡ Refused NoKernel) ↔ ((usable rules r store ≡ true) × OnlyNoKernel shape k w h pixels)
   pub listed : (store : List ℕ) → length store ≡ storeLength → (calls : List Call) (shape : Shape) (k w h : ℕ) (pixels : List ℕ)
-      → (answerAt (after (opened store) calls) (submit shape k w h pixels) ≡ Refused NoKernel) ↔ OnlyNoKernel shape k w h pixels
+      → (answerAt (after (opened rules store) calls) (submit shape k w h pixels) ≡ Refused NoKernel) ↔ OnlyNoKernel shape k w h pixels

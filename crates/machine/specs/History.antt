@@ -13,6 +13,7 @@ use Rattle.averaging.specs.Steps.{stepsOf, exactOf}
 use Rattle.machine.specs.declared.Service.{Service}
 use Rattle.machine.specs.declared.Answer.{Answer}
 use Rattle.machine.specs.declared.Answer.the-variants.{Job, Idle, Refused}
+use Rattle.machine.specs.Rules.{Rules}
 use Rattle.machine.specs.Slots.{opening}
 use Rattle.machine.specs.Calls.{Call, submit, tick, collect, withdraw, callOf}
 
@@ -22,29 +23,32 @@ pub record Event : Type 0 where
   pub answer : Answer
   pub lent : List ℕ
 
--- a place in the list: the record and the store there, and all that was called and answered before it, the latest first
+-- a place in the list: the rules that a call follows there, the record and the store, and all that was called and answered before it,
+-- the latest first
 pub record Place : Type 0 where
+  pub rules : Rules
   pub service : Service
   pub store : List ℕ
   pub history : List Event
 
-abbrev pub opened : List ℕ → Place
-opened store = record { service = opening; store = store; history = [] }
+abbrev pub opened : Rules → List ℕ → Place
+opened rules store = record { rules = rules; service = opening rules; store = store; history = [] }
 
 abbrev pub eventOf : Place → Call → Event
 eventOf p c =
     record {
       call = c;
-      answer = callOf (p .service) (p .store) c .answer;
-      lent = callOf (p .service) (p .store) c .lent;
+      answer = callOf (p .rules) (p .service) (p .store) c .answer;
+      lent = callOf (p .rules) (p .service) (p .store) c .lent;
     }
 
--- "Accepted, idle or refused, each passes its record and store to the next"
+-- "Accepted, idle or refused, each passes its record and store to the next"; no call changes the rules
 abbrev pub next : Place → Call → Place
 next p c =
     record {
-      service = callOf (p .service) (p .store) c .service;
-      store = callOf (p .service) (p .store) c .store;
+      rules = p .rules;
+      service = callOf (p .rules) (p .service) (p .store) c .service;
+      store = callOf (p .rules) (p .service) (p .store) c .store;
       history = eventOf p c ∷ p .history;
     }
 

@@ -1,5 +1,6 @@
 -- The service as a state machine, and demand 3 of every list of its calls.
 pub mod Answers
+pub mod Rules
 pub mod Slots
 pub mod Store
 pub mod Order

@@ -4,7 +4,7 @@ use mathlib.Core.Path.{_≡_}
 use mathlib.Core.Bool.{true}
 use mathlib.Core.Logic.{_⊎_, _↔_}
 use mathlib.Core.List.{List, [], _∷_}
-use Prim.Native.Nat.{ℕ, _+_, _*_, _<_}
+use Prim.Native.Nat.{ℕ, _+_, _*_, _<_, _≤_}
 use lib.ListN.{length}
 use Rattle.limits.specs.Errors.{outcomeNumber}
 use Rattle.limits.specs.declared.Outcome.{Outcome}
@@ -15,6 +15,7 @@ use Rattle.machine.specs.declared.Answer.{Answer}
 use Rattle.machine.specs.declared.Found.{Found}
 use Rattle.machine.specs.declared.Found.the-variants.{At, Nothing}
 use Rattle.machine.specs.Answers.{answerNumber, answerValues, countNumber, countValues}
+use Rattle.machine.specs.Rules.{Rules, baseRules}
 use Rattle.machine.specs.Slots.{slotAt}
 use Rattle.machine.specs.Store.{storeLength}
 use Rattle.machine.specs.Calls.{Call, submit, tick, collect, withdraw, freeBuffers, submitChecks, submitOf, tickChecks, servedPlace, tickOf, collectChecks, collectOf, withdrawChecks, withdrawOf, countChecks, freeCountOf}
@@ -31,28 +32,29 @@ pub record AnswerIs (a : Answer) (o : Outcome) (n : ℕ) : Type 0 where
   pub number : answerNumber a ≡ outcomeNumber o
   pub values : answerValues a ≡ valuesUnless o n
 
--- ---- at any record and any store
+-- ---- at any record and any store, by any rules
 -- the values of a tick: the number of the job that it serves
 abbrev pub tickValues : Service → Outcome → Found → List ℕ
 tickValues r O.Accepted (At i) = slotAt r i .number ∷ []
 tickValues r O.Accepted Nothing = []
 tickValues r (O.Refused code) f = []
 
-pub record CallsInNumbers (r : Service) (store : List ℕ) : Type 0 where
+pub record CallsInNumbers (rules : Rules) (r : Service) (store : List ℕ) : Type 0 where
   pub submits : (shape : Shape) (k w h : ℕ) (pixels : List ℕ)
-      → AnswerIs (submitOf r store shape k w h pixels .answer) (submitChecks r store shape k w h pixels) (r .last + 1)
-  pub ticks : answerNumber (tickOf r store .answer) ≡ outcomeNumber (tickChecks r store)
-  pub ticked : answerValues (tickOf r store .answer) ≡ tickValues r (tickChecks r store) (servedPlace r)
-  pub collects : (n : ℕ) (lent : List ℕ) → AnswerIs (collectOf r store n lent .answer) (collectChecks r store n lent) n
-  pub withdraws : (n : ℕ) → AnswerIs (withdrawOf r store n .answer) (withdrawChecks r n) n
-  pub counts : countNumber (freeCountOf r) ≡ outcomeNumber (countChecks r)
-  pub counted : countValues (freeCountOf r) ≡ valuesUnless (countChecks r) (freeBuffers r)
+      → AnswerIs (submitOf rules r store shape k w h pixels .answer) (submitChecks rules r store shape k w h pixels) (r .last + 1)
+  pub ticks : answerNumber (tickOf rules r store .answer) ≡ outcomeNumber (tickChecks rules r store)
+  pub ticked : answerValues (tickOf rules r store .answer) ≡ tickValues r (tickChecks rules r store) (servedPlace rules r)
+  pub collects : (n : ℕ) (lent : List ℕ) → AnswerIs (collectOf rules r store n lent .answer) (collectChecks rules r store n lent) n
+  pub withdraws : (n : ℕ) → AnswerIs (withdrawOf rules r store n .answer) (withdrawChecks rules r n) n
+  pub counts : countNumber (freeCountOf rules r) ≡ outcomeNumber (countChecks rules r)
+  pub counted : countValues (freeCountOf rules r) ≡ valuesUnless (countChecks rules r) (freeBuffers rules r)
 
 -- ---- at a place of a list
+-- by document 01's rules, whose numbers stand here as it gives them
 pub record InNumbers (p : Place) : Type 0 where
   -- a submit answers 0 and the next number, or the refusal's number
   pub submits : (shape : Shape) (k w h : ℕ) (pixels : List ℕ)
-      → AnswerIs (answerAt p (submit shape k w h pixels)) (submitOutcome (p .history) shape k w h pixels) (jobCount (p .history) + 1)
+      → AnswerIs (answerAt p (submit shape k w h pixels)) (submitOutcome baseRules (p .history) shape k w h pixels) (jobCount (p .history) + 1)
   -- a collect and a withdraw answer 0 and the job's number, or the refusal's number
   pub collects : (n : ℕ) (lent : List ℕ) → AnswerIs (answerAt p (collect n lent)) (collectOutcome (p .history) n lent) n
   pub withdraws : (n : ℕ) → AnswerIs (answerAt p (withdraw n)) (withdrawOutcome (p .history) n) n
@@ -64,10 +66,11 @@ pub record InNumbers (p : Place) : Type 0 where
   -- the wait: 8 ticks for each step left
   pub waits : (n : ℕ) (calls : List Call) → held (p .history) n ≡ true → ticksIn calls ≡ 8 * stepsLeft (p .history) n
       → (finished (after p calls .history) n ≡ true) ⊎ (withdrawnIn (since p calls) n ≡ true)
+  pub at-most-eight : heldCount (p .history) ≤ 8
   -- nor is the free count refused: with 2 for each job held it makes 16
-  pub counts : countNumber (freeCountOf (p .service)) ≡ 0
-  pub counted : (free : ℕ) × (countValues (freeCountOf (p .service)) ≡ free ∷ []) × (free + 2 * heldCount (p .history) ≡ 16)
+  pub counts : countNumber (freeCountOf baseRules (p .service)) ≡ 0
+  pub counted : (free : ℕ) × (countValues (freeCountOf baseRules (p .service)) ≡ free ∷ []) × (free + 2 * heldCount (p .history) ≡ 16)
 
 -- at the place after any list of calls from the opening on
 abbrev pub Demand3InNumbers : Type 0
-Demand3InNumbers = (store : List ℕ) → length store ≡ storeLength → (calls : List Call) → InNumbers (after (opened store) calls)
+Demand3InNumbers = (store : List ℕ) → length store ≡ storeLength → (calls : List Call) → InNumbers (after (opened baseRules store) calls)

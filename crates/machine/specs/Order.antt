@@ -11,7 +11,8 @@ use Rattle.kernel.specs.Molecule.{unitsOf}
 use Rattle.kernel.specs.Existence.{kernelExists}
 use Rattle.machine.specs.declared.Slot.{Slot}
 use Rattle.machine.specs.declared.Service.{Service}
-use Rattle.machine.specs.Slots.{slotCount, isEmpty, hasNumber, countOf, everySlot}
+use Rattle.machine.specs.Rules.{Rules}
+use Rattle.machine.specs.Slots.{isEmpty, hasNumber, countOf, everySlot}
 use Rattle.machine.specs.Store.{storeLength}
 
 abbrev pub isZero : ℤ → Bool
@@ -40,16 +41,16 @@ pub record FilledSlot (last : ℕ) (s : Slot) : Type 0 where
   pub left : s .left ≤ s .steps
 
 -- ".. shared with no other seat"
-abbrev pub unshared : List Slot → Slot → Bool
-unshared slots s = eqb (countOf (hasNumber (s .number)) slots slotCount) 1
+abbrev pub unshared : Rules → List Slot → Slot → Bool
+unshared rules slots s = eqb (countOf (hasNumber (s .number)) slots (rules .slotCount)) 1
 
-unfoldable pub slotFine : Service → Slot → Bool
-slotFine r s = cond (isEmpty s) (allZero s) (filledFine (r .last) s && unshared (r .slots) s)
+unfoldable pub slotFine : Rules → Service → Slot → Bool
+slotFine rules r s = cond (isEmpty s) (allZero s) (filledFine (r .last) s && unshared rules (r .slots) s)
 
--- "and both named seats are 0 to 7"
-unfoldable pub inOrder : Service → Bool
-inOrder r = everySlot (slotFine r) (r .slots) slotCount && (ltb (r .filled) slotCount && ltb (r .served) slotCount)
+-- "and both named seats are 0 to 7", each a slot
+unfoldable pub inOrder : Rules → Service → Bool
+inOrder rules r = everySlot (slotFine rules r) (r .slots) (rules .slotCount) && (ltb (r .filled) (rules .slotCount) && ltb (r .served) (rules .slotCount))
 
 -- "The service record is not in order, or the store's length is not 16,384": refusal 2 of a call that is lent the store
-unfoldable pub usable : Service → List ℕ → Bool
-usable r store = inOrder r && eqb (length store) storeLength
+unfoldable pub usable : Rules → Service → List ℕ → Bool
+usable rules r store = inOrder rules r && eqb (length store) storeLength

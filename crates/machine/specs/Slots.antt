@@ -9,10 +9,11 @@ use Rattle.machine.specs.declared.Slot.{Slot}
 use Rattle.machine.specs.declared.Service.{Service}
 use Rattle.machine.specs.declared.Found.{Found}
 use Rattle.machine.specs.declared.Found.the-variants.{At, Nothing}
+use Rattle.machine.specs.Rules.{Rules, currentRules}
 
--- "Eight seats, 0 to 7"
+-- how many there are by the rules that the calls of this library run by: "Eight seats, 0 to 7"
 abbrev pub slotCount : ℕ
-slotCount = 8
+slotCount = currentRules .slotCount
 
 -- "each empty seat is all zero"
 abbrev pub emptySlot : Slot
@@ -21,9 +22,15 @@ emptySlot = record { number = 0; xx = pos 0; xy = pos 0; yy = pos 0; steps = 0; 
 abbrev pub slotAt : Service → ℕ → Slot
 slotAt s i = getD (s .slots) i emptySlot
 
--- "Opening: all empty, last number 0, both named seats 7"
-abbrev pub opening : Service
-opening = record { slots = replicate slotCount emptySlot; last = 0; filled = slotCount - 1; served = slotCount - 1 }
+-- "Opening: all empty, last number 0, both named seats 7": the last of the slots
+abbrev pub opening : Rules → Service
+opening rules =
+    record {
+      slots = replicate (rules .slotCount) emptySlot;
+      last = 0;
+      filled = rules .slotCount - 1;
+      served = rules .slotCount - 1;
+    }
 
 -- what the searches look for: an empty slot, one with steps left, one with a number
 abbrev pub isEmpty : Slot → Bool

@@ -1,8 +1,9 @@
 -- The layout worked through by hand is what the definitions compute. Assumes nothing.
 use mathlib.Core.Path.{_≡_, refl}
+use Rattle.image.specs.Image.{entries}
 use Rattle.record_words.specs.Words.{wordsFit, fieldsFit, slotOf, serviceOf, withSlots}
 use Rattle.record_words.proofs.Table.{table, computed}
 
 pub worked : computed ≡ table
-unfolding wordsFit fieldsFit slotOf serviceOf withSlots
+unfolding entries wordsFit fieldsFit slotOf serviceOf withSlots
 worked = refl

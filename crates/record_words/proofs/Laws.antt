@@ -1,4 +1,5 @@
--- Words within their fields, signed numbers and their two's complement, and slots read and written one by one. Assumes nothing.
+-- Words within their fields, signed numbers and their two's complement, and slots written one by one: of as many slots as the record
+-- of the running calls has. Assumes nothing.
 use mathlib.Core.Path.{_≡_, refl, sym, _∙_, ap}
 use mathlib.Core.Bool.{Bool, true, false, _&&_, cond, true≢false}
 use mathlib.Core.List.{List}
@@ -9,18 +10,17 @@ use native.Mathlib.Omega.{arith}
 use borrow.Author.Tests.{eqb-true, ltb-true, le-ltb, ne-eqb}
 use borrow.Author.Count.{below-more}
 use lib.Dec.{eqb, ltb}
-use lib.ListN.{length, getD, set, replicate}
+use lib.ListN.{length, getD}
 use lib.IntN.{ℤ, pos, negsuc, natAbs, _-ℤ_}
 use lib.Signed.{mag, ltZ}
 use mir.Syntax.{w32, w64}
 use mir.Val.{Fits, SFits, toZ, ofZ}
 use mir.ValLaws.{toZ-pos, toZ-ofZ}
 use Rattle.limits.proofs.Laws.{both-true}
-use Rattle.machine.specs.declared.Slot.{Slot}
 use Rattle.machine.specs.declared.Service.{Service}
 use Rattle.machine.proofs.Parts.{length-put}
-use Rattle.machine.specs.Slots.{slotCount, slotAt, emptySlot}
-use Rattle.record_words.specs.Words.{wordCount, slotWords, wordPlace, wordAt, wordFits, wordsFit, fieldsFit, slotFits, slotOf, slotsOf, wordsOfSlot, withSlot, withSlots}
+use Rattle.machine.specs.Slots.{slotCount, slotAt}
+use Rattle.record_words.specs.Words.{wordCount, slotWords, wordPlace, wordAt, wordFits, wordsFit, fieldsFit, slotFits, wordsOfSlot, withSlot, withSlots}
 
 -- ---- words within their fields
 pub fit-none : (words : List ℕ) → wordsFit words 0 ≡ true
@@ -139,23 +139,6 @@ module _ (v : ℤ) (h : SFits w32 v) where
 
     pub read-back : toZ w32 (ofZ w32 (negsuc 0 -ℤ toZ w32 (ofZ w32 v))) ≡ pos (mag v)
     read-back = ap (λ z. toZ w32 (ofZ w32 z)) counted-down ∙ toZ-ofZ w32 (pos (mag v)) mag-signed
-
--- ---- the slots one by one
-unfoldable pub slotsTo : List ℕ → ℕ → List Slot
-slotsTo words zero = replicate slotCount emptySlot
-slotsTo words (suc n) = set (slotsTo words n) n (slotOf words n)
-
-pub slots-none : (words : List ℕ) → slotsTo words 0 ≡ replicate slotCount emptySlot
-unfolding slotsTo
-slots-none words = refl
-
-pub slots-more : (words : List ℕ) (n : ℕ) → slotsTo words (n + 1) ≡ set (slotsTo words n) n (slotOf words n)
-unfolding slotsTo
-slots-more words n = rw (add-one n)
-
-pub slots-all : (words : List ℕ) → slotsTo words slotCount ≡ slotsOf words
-unfolding slotsTo
-slots-all words = refl
 
 -- ---- the slots written one by one
 pub slots-written-none : (r : Service) (words : List ℕ) → withSlots r 0 words ≡ words

@@ -13,12 +13,13 @@ use lib.Seq.{getD-take, getD-drop}
 use mir.Syntax.{w32}
 use mir.Val.{SFits, ofZ}
 use mir.ValLaws.{ofZ-fits}
+use Rattle.averaging.proofs.Images.{same-entries, own-entries}
 use Rattle.machine.proofs.Parts.{part-own, part-other, length-put}
 use Rattle.machine.specs.declared.Slot.{Slot}
 use Rattle.machine.specs.declared.Service.{Service}
 use Rattle.machine.specs.Slots.{slotCount, slotAt, emptySlot}
 use Rattle.machine.specs.Store.{part, put}
-use Rattle.record_words.specs.Words.{wordCount, slotWords, wordAt, wordFits, wordsFit, fieldsFit, slotOf, serviceOf, wordsOfSlot, withSlots, withService}
+use Rattle.record_words.specs.Words.{wordCount, slotWords, wordAt, wordFits, wordsFit, fieldsFit, slotOf, slotsOf, serviceOf, wordsOfSlot, withSlots, withService}
 use Rattle.record_words.proofs.Laws.{passes, slots-written-length}
 
 -- an entry of a part
@@ -82,33 +83,10 @@ pub record SlotFits (s : Slot) : Type 0 where
   pub height-fits : s .height < 2 ^ 32
 
 pub record Fits (r : Service) : Type 0 where
-  pub eight : length (r .slots) ≡ slotCount
+  pub as-many : length (r .slots) ≡ slotCount
   pub slots-fit : (i : ℕ) → i < slotCount → SlotFits (slotAt r i)
   pub filled-fits : r .filled < 2 ^ 32
   pub served-fits : r .served < 2 ^ 32
-
--- eight slots, one by one
-eight-slots : (slots : List Slot) → length slots ≡ slotCount
-    → slots
-    ≡ getD slots 0 emptySlot
-    ∷ getD slots 1 emptySlot
-    ∷ getD slots 2 emptySlot
-    ∷ getD slots 3 emptySlot
-    ∷ getD slots 4 emptySlot
-    ∷ getD slots 5 emptySlot
-    ∷ getD slots 6 emptySlot
-    ∷ getD slots 7 emptySlot
-    ∷ []
-eight-slots [] long = absurd (omega arith)
-eight-slots (a ∷ []) long = absurd (omega arith)
-eight-slots (a ∷ b ∷ []) long = absurd (omega arith)
-eight-slots (a ∷ b ∷ c ∷ []) long = absurd (omega arith)
-eight-slots (a ∷ b ∷ c ∷ d ∷ []) long = absurd (omega arith)
-eight-slots (a ∷ b ∷ c ∷ d ∷ e ∷ []) long = absurd (omega arith)
-eight-slots (a ∷ b ∷ c ∷ d ∷ e ∷ f ∷ []) long = absurd (omega arith)
-eight-slots (a ∷ b ∷ c ∷ d ∷ e ∷ f ∷ g ∷ []) long = absurd (omega arith)
-eight-slots (a ∷ b ∷ c ∷ d ∷ e ∷ f ∷ g ∷ h ∷ []) long = refl
-eight-slots (a ∷ b ∷ c ∷ d ∷ e ∷ f ∷ g ∷ h ∷ i ∷ more) long = absurd (omega arith)
 
 module _ (r : Service) (words : List ℕ) (long : length words ≡ wordCount) (fits : Fits r) where
   slot-back : (i : ℕ) → i < slotCount → slotOf (withService r words) i ≡ slotAt r i
@@ -130,24 +108,13 @@ module _ (r : Service) (words : List ℕ) (long : length words ≡ wordCount) (f
         passes (s .yy) (f .yy-fits),
       )
 
+  slots-back : slotsOf (withService r words) ≡ r .slots
+  slots-back = same-entries slotCount (slotOf (withService r words)) (slotAt r) slot-back ∙ sym (own-entries slotCount emptySlot (r .slots) (fits .as-many))
+
   -- THE RECORD THAT WAS WRITTEN IS READ BACK
   pub read-back : serviceOf (withService r words) ≡ r
   unfolding serviceOf
-  read-back =
-      rw (
-        slot-back 0 (omega arith),
-        slot-back 1 (omega arith),
-        slot-back 2 (omega arith),
-        slot-back 3 (omega arith),
-        slot-back 4 (omega arith),
-        slot-back 5 (omega arith),
-        slot-back 6 (omega arith),
-        slot-back 7 (omega arith),
-        last-word r words long 0 (omega arith),
-        last-word r words long 1 (omega arith),
-        last-word r words long 2 (omega arith),
-      )
-      (ap (λ (slots : List Slot). record { slots = slots; last = r .last; filled = r .filled; served = r .served }) (sym (eight-slots (r .slots) (fits .eight))))
+  read-back = rw (slots-back, last-word r words long 0 (omega arith), last-word r words long 1 (omega arith), last-word r words long 2 (omega arith))
 
 -- ---- the words are words of a record
 -- 32 bits are within every field

@@ -14,6 +14,7 @@ use lib.Seq.{getD-set-same, getD-set-other, ext-getD}
 use mir.Syntax.{w32}
 use mir.Val.{toZ, ofZ}
 use mir.ValLaws.{ofZ-toZ}
+use Rattle.averaging.proofs.Images.{length-entries, entry}
 use Rattle.machine.specs.declared.Slot.{Slot}
 use Rattle.machine.specs.declared.Service.{Service}
 use Rattle.machine.specs.Slots.{slotCount, slotAt, emptySlot}
@@ -42,15 +43,7 @@ module _ (words : List ℕ) (fit : fieldsFit words ≡ true) where
   own-word j h (suc (suc (suc (suc (suc (suc (suc (suc n)))))))) g = absurd (omega arith)
 
   read-slot : (j : ℕ) → j < slotCount → getD (slotsOf words) j emptySlot ≡ slotOf words j
-  read-slot zero h = refl
-  read-slot (suc zero) h = refl
-  read-slot (suc (suc zero)) h = refl
-  read-slot (suc (suc (suc zero))) h = refl
-  read-slot (suc (suc (suc (suc zero)))) h = refl
-  read-slot (suc (suc (suc (suc (suc zero))))) h = refl
-  read-slot (suc (suc (suc (suc (suc (suc zero)))))) h = refl
-  read-slot (suc (suc (suc (suc (suc (suc (suc zero))))))) h = refl
-  read-slot (suc (suc (suc (suc (suc (suc (suc (suc n)))))))) h = absurd (omega arith)
+  read-slot j h = entry slotCount (slotOf words) emptySlot j h
 
   module _ (i left : ℕ) (h : i < slotCount) where
     long : length words ≡ wordCount
@@ -60,8 +53,8 @@ module _ (words : List ℕ) (fit : fieldsFit words ≡ true) where
     after =
         record {
           slots = set (slotsOf words) i (withLeft (slotOf words i) left);
-          last = wordAt words 8 0;
-          filled = wordAt words 8 1;
+          last = wordAt words slotCount 0;
+          filled = wordAt words slotCount 1;
           served = i;
         }
 
@@ -100,7 +93,7 @@ module _ (words : List ℕ) (fit : fieldsFit words ≡ true) where
         go : (t : Bool) → eqb j i ≡ t → getD (wordsOfSlot (slotAt after j)) f 0 ≡ wordAt (withTurn i left words) j f
         go true e =
             let same = eqb-true j i e in
-            ap (λ (s : Slot). getD (wordsOfSlot s) f 0) (ap (slotAt after) same ∙ getD-set-same (slotsOf words) i (withLeft (slotOf words i) left) emptySlot h)
+            ap (λ (s : Slot). getD (wordsOfSlot s) f 0) (ap (slotAt after) same ∙ getD-set-same (slotsOf words) i (withLeft (slotOf words i) left) emptySlot (rw (length-entries slotCount (slotOf words)) h))
             ∙ served-slot f g
             ∙ ap (λ (n : ℕ). wordAt (withTurn i left words) n f) (sym same)
         go false e =
@@ -109,9 +102,9 @@ module _ (words : List ℕ) (fit : fieldsFit words ≡ true) where
             ∙ own-word j l f g
             ∙ sym (other-word (wordPlace j f) (λ x. other (omega arith)) (λ x. omega arith))
 
-    last-three : (f : ℕ) → f < 3 → getD (wordAt words 8 0 ∷ wordAt words 8 1 ∷ i ∷ []) f 0 ≡ wordAt (withTurn i left words) slotCount f
-    last-three zero g = sym (other-word 64 (λ x. omega arith) (λ x. omega arith))
-    last-three (suc zero) g = sym (other-word 65 (λ x. omega arith) (λ x. omega arith))
+    last-three : (f : ℕ) → f < 3 → getD (wordAt words slotCount 0 ∷ wordAt words slotCount 1 ∷ i ∷ []) f 0 ≡ wordAt (withTurn i left words) slotCount f
+    last-three zero g = sym (other-word (wordPlace slotCount 0) (λ x. omega arith) (λ x. omega arith))
+    last-three (suc zero) g = sym (other-word (wordPlace slotCount 1) (λ x. omega arith) (λ x. omega arith))
     last-three (suc (suc zero)) g = sym served-word
     last-three (suc (suc (suc n))) g = absurd (omega arith)
 
@@ -143,5 +136,5 @@ module _ (words : List ℕ) (fit : fieldsFit words ≡ true) where
     unfolding serviceOf
     turn-written r held =
         ap (λ (x : Service). withService (turnedAt x i left) words) held
-        ∙ ap (λ (s : Slot). withService (record { slots = set (slotsOf words) i (withLeft s left); last = wordAt words 8 0; filled = wordAt words 8 1; served = i }) words) (read-slot i h)
+        ∙ ap (λ (s : Slot). withService (record { slots = set (slotsOf words) i (withLeft s left); last = wordAt words slotCount 0; filled = wordAt words slotCount 1; served = i }) words) (read-slot i h)
         ∙ two-words

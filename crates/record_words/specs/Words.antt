@@ -8,17 +8,19 @@ use lib.Dec.{eqb, ltb}
 use lib.ListN.{length, getD, set}
 use mir.Syntax.{w32}
 use mir.Val.{toZ, ofZ}
+use Rattle.image.specs.Image.{entries}
 use Rattle.machine.specs.declared.Slot.{Slot}
 use Rattle.machine.specs.declared.Service.{Service}
 use Rattle.machine.specs.Slots.{slotCount, slotAt}
 use Rattle.machine.specs.Store.{put}
 
-abbrev pub wordCount : ℕ
-wordCount = 67
-
 -- the words of one slot
 abbrev pub slotWords : ℕ
 slotWords = 8
+
+-- 67: those of the slots, and three
+abbrev pub wordCount : ℕ
+wordCount = slotWords * slotCount + 3
 
 -- whether a word is within its field
 abbrev pub wordFits : ℕ → ℕ → Bool
@@ -33,7 +35,7 @@ wordsFit words (suc n) = wordsFit words n && wordFits n (getD words n 0)
 unfoldable pub fieldsFit : List ℕ → Bool
 fieldsFit words = eqb (length words) wordCount && wordsFit words wordCount
 
--- the place of a field of a slot, and of the three last words, which follow as those of a ninth would
+-- the place of a field of a slot, and of the three last words, which follow as those of one slot more would
 abbrev pub wordPlace : ℕ → ℕ → ℕ
 wordPlace place field = slotWords * place + field
 
@@ -64,22 +66,19 @@ slotOf words place =
       height = wordAt words place 7;
     }
 
+-- the slots that the words hold
 abbrev pub slotsOf : List ℕ → List Slot
-slotsOf words =
-    slotOf words 0
-    ∷ slotOf words 1
-    ∷ slotOf words 2
-    ∷ slotOf words 3
-    ∷ slotOf words 4
-    ∷ slotOf words 5
-    ∷ slotOf words 6
-    ∷ slotOf words 7
-    ∷ []
+slotsOf words = entries slotCount (slotOf words)
 
 -- the record that the words hold
 unfoldable pub serviceOf : List ℕ → Service
 serviceOf words =
-    record { slots = slotsOf words; last = wordAt words 8 0; filled = wordAt words 8 1; served = wordAt words 8 2 }
+    record {
+      slots = slotsOf words;
+      last = wordAt words slotCount 0;
+      filled = wordAt words slotCount 1;
+      served = wordAt words slotCount 2;
+    }
 
 -- the words of a slot, in order
 abbrev pub wordsOfSlot : Slot → List ℕ

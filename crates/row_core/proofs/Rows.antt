@@ -4,10 +4,9 @@ use mathlib.Core.Path.{_≡_, refl, sym, ap, ap₂, _∙_}
 use mathlib.Core.List.{List, [], _∷_, _++_}
 use Prim.Native.Nat.{ℕ, zero, suc, _+_, _-_, _*_, _≤_, _<_, min}
 use native.Mathlib.Nat.{suc-mul, mul-le-mul-right}
-use native.Mathlib.Numerals.{add-one}
 use native.Mathlib.Omega.{arith}
-use lib.ListN.{length, getD, set, take, drop, length-drop}
-use lib.Seq.{length-take-le, take-suc-set, take-all, getD-take, getD-drop}
+use lib.ListN.{length, getD, drop, length-drop}
+use lib.Seq.{length-take-le, getD-take, getD-drop}
 use lib.IntN.{ℤ, pos, negsuc, _+ℤ_}
 use borrow.Author.Tests.{le-ltb}
 use Rattle.kernel.specs.Offsets.{Offset, offsets, sumOver, weighted}
@@ -15,7 +14,7 @@ use Rattle.kernel.specs.declared.Kernel.{Kernel}
 use Rattle.image.specs.Image.{nearestPlace, beside, pixelAt, entries, rows}
 use Rattle.averaging.specs.Steps.{nearest, weightedAt, stepOf}
 use Rattle.averaging.proofs.Averages.{Each}
-use Rattle.averaging.proofs.Images.{nearest-lt, length-entries, entry}
+use Rattle.averaging.proofs.Images.{nearest-lt, length-entries, entry, same-entries}
 use Rattle.row_core.specs.Rows.{part, paddedOf, columnOf, pixelIn, rowOf}
 
 -- ---- places: the one before i, as the code counts it. Those at i and after it compute so.
@@ -29,23 +28,7 @@ place-before n (suc i) = rw (le-ltb (suc i) 1 (omega arith)) (omega arith)
 pub length-part : (i n : ℕ) (l : List ℕ) → i + n ≤ length l → length (part i n l) ≡ n
 length-part i n l h = length-take-le n (drop i l) (rw length-drop (omega arith))
 
--- ---- lists that are filled from the front
-
--- one more entry is stored
-pub store : (n : ℕ) (f : ℕ → ℕ) (o : List ℕ) {v : ℕ} → n < length o → take n o ≡ entries n f → v ≡ f n → take (n + 1) (set o n v) ≡ entries (n + 1) f
-unfolding entries
-store n f o l e ev = rw (add-one, take-suc-set, e, ev)
-
--- and once all are, the list is the entries
-pub stored : (n m : ℕ) (f : ℕ → ℕ) (o : List ℕ) → length o ≡ n → n ≡ m → take n o ≡ entries n f → o ≡ entries m f
-stored n m f o l g e = sym (take-all n o (omega arith)) ∙ e ∙ ap (λ (i : ℕ). entries i f) g
-
--- entries that agree below n
-same-entries : (n : ℕ) (f g : ℕ → ℕ) → ((i : ℕ) → i < n → f i ≡ g i) → entries n f ≡ entries n g
-unfolding entries
-same-entries zero f g same = refl
-same-entries (suc n) f g same = ap₂ (λ l v. l ++ (v ∷ [])) (same-entries n f g (λ i l. same i (omega arith))) (same n (omega arith))
-
+-- ---- rows
 -- rows that agree below n
 same-rows : (n : ℕ) (f g : ℕ → List ℕ) → ((y : ℕ) → y < n → f y ≡ g y) → rows n f ≡ rows n g
 unfolding rows

@@ -13,6 +13,7 @@ use Rattle.machine.specs.declared.Answer.{Answer}
 use Rattle.machine.specs.declared.Answer.the-variants.{Job, Idle, Refused}
 use Rattle.machine.specs.declared.Found.{Found}
 use Rattle.machine.specs.declared.Found.the-variants.{At, Nothing}
+use Rattle.machine.specs.Rules.{currentRules}
 use Rattle.machine.specs.Slots.{slotCount, slotAt}
 use Rattle.machine.specs.Store.{storeLength, put, bufferAfter}
 use Rattle.machine.specs.Calls.{Result, turnedAt, servedPlace, handOverChecks, unlessRefused, collectAt}
@@ -30,7 +31,7 @@ fillAt r store slot pixels (At i) =
     record {
       answer = Job (slot .number);
       service = record { slots = set (r .slots) i slot; last = slot .number; filled = i; served = r .served };
-      store = put (bufferAfter i 0) pixels store;
+      store = put (bufferAfter currentRules i 0) pixels store;
       lent = pixels;
     }
 fillAt r store slot pixels Nothing = record { answer = Refused NoFreeBuffers; service = r; store = store; lent = pixels }
@@ -38,7 +39,7 @@ fillAt r store slot pixels Nothing = record { answer = Refused NoFreeBuffers; se
 -- a collect that found its slot
 abbrev pub handOver : Service → List ℕ → ℕ → List ℕ → ℕ → Result
 handOver r store number lent i =
-    unlessRefused (firstRefusal (handOverChecks (slotAt r i) (length lent))) r store lent (collectAt r store number lent (At i))
+    unlessRefused (firstRefusal (handOverChecks (slotAt r i) (length lent))) r store lent (collectAt currentRules r store number lent (At i))
 
 -- a slot whose picture can be taken one step on
 pub record Ready (n : ℕ) (s : Slot) (i : ℕ) : Type 0 where
@@ -65,7 +66,7 @@ turnUnless (O.Outcome.Refused code) turn = noTurn (Refused code)
 
 -- a tick without the record after it: its answer, and what it changes in the record
 unfoldable pub turnOf : Service → List ℕ → T.Turn
-turnOf r store = turnUnless (firstRefusal ((usable r store otherwise RecordOutOfOrder) ∷ [])) (turnAt r (servedPlace r))
+turnOf r store = turnUnless (firstRefusal ((usable currentRules r store otherwise RecordOutOfOrder) ∷ [])) (turnAt r (servedPlace currentRules r))
 
 -- the record after a tick that answered so: with no step it stays
 abbrev pub afterTurn : Answer → Service → ℕ → ℕ → Service

@@ -9,6 +9,7 @@ ghost use lib.Dec.{eqb};
 ghost use lib.ListN.{length};
 ghost use Rattle.limits.specs.Limits.{fitsBuffer, bufferPixels};
 ghost use Rattle.limits.specs.Errors.{firstRefusal};
+ghost use Rattle.machine.specs.Rules.{currentRules};
 ghost use Rattle.machine.specs.Slots.{slotCount, slotAt, opening as openingOf};
 ghost use Rattle.machine.specs.Store.{storeLength, bufferAfter, put, stepsDone};
 ghost use Rattle.machine.specs.Order.{inOrder};
@@ -35,7 +36,7 @@ pub struct Called {
 }
 
 pub fn opening() -> Service
-    ensures { λ r. ⌜ r ≡ openingOf ⌝ }
+    ensures { λ r. ⌜ r ≡ openingOf currentRules ⌝ }
 {
     slots::opening()
 }
@@ -51,7 +52,7 @@ fn refused(service: Service, code: ErrorCode) -> Called
 
 // Refusal 2 of a call that is lent the store, of whose length this is.
 fn usable(service: Service, length: usize) -> bool
-    ensures { λ r. ⌜ r ≡ (inOrder service && eqb length storeLength) ⌝ }
+    ensures { λ r. ⌜ r ≡ (inOrder currentRules service && eqb length storeLength) ⌝ }
 {
     if slots::in_order(service) {
         length == STORE_PIXELS
@@ -61,7 +62,7 @@ fn usable(service: Service, length: usize) -> bool
 }
 
 pub fn free_count(service: Service) -> FreeCount
-    ensures { λ r. ⌜ r ≡ freeCountOf service ⌝ }
+    ensures { λ r. ⌜ r ≡ freeCountOf currentRules service ⌝ }
 {
     if slots::in_order(service) {
         return FreeCount::Buffers(free_buffers(service));
@@ -70,14 +71,14 @@ pub fn free_count(service: Service) -> FreeCount
 }
 
 fn free_buffers(service: Service) -> u32
-    ensures { λ r. ⌜ r ≡ freeBuffers service ⌝ }
+    ensures { λ r. ⌜ r ≡ freeBuffers currentRules service ⌝ }
 {
     BUFFERS - BUFFERS_PER_SLOT * slots::tally(service, Sought::Filled)
 }
 
 // The slot of a job, for a number that is not 0.
 fn place_of(service: Service, number: u64) -> Found
-    ensures { λ r. ⌜ r ≡ placeOf service number ⌝ }
+    ensures { λ r. ⌜ r ≡ placeOf currentRules service number ⌝ }
 {
     if number == 0 {
         return Found::Nothing;
@@ -95,7 +96,7 @@ fn emptied(service: Service, place: usize) -> Service
 }
 
 pub fn withdraw(service: Service, number: u64) -> Called
-    ensures { λ r. ⌜ ((store : List ℕ) → r ≡ calledOf (withdrawOf service store number)) ⌝ }
+    ensures { λ r. ⌜ ((store : List ℕ) → r ≡ calledOf (withdrawOf currentRules service store number)) ⌝ }
 {
     if slots::in_order(service) {
         match place_of(service, number) {
@@ -119,7 +120,7 @@ const BUFFERS_OF_SLOT: usize = BUFFERS_PER_SLOT as usize;
 // The place where the picture of a slot stands after so many steps: each step goes to the slot's other buffer.
 fn buffer_after(place: usize, done: usize) -> usize
     requires { ⌜ place < slotCount ⌝ }
-    ensures { λ r. ⌜ r ≡ bufferAfter place done ⌝ }
+    ensures { λ r. ⌜ r ≡ bufferAfter currentRules place done ⌝ }
 {
     limits::BUFFER_PIXELS * (BUFFERS_OF_SLOT * place + done % BUFFERS_OF_SLOT)
 }
@@ -135,7 +136,7 @@ fn job_checks(
     height: u32,
     length: usize,
 ) -> Outcome
-    ensures { λ r. ⌜ r ≡ firstRefusal (jobChecks xx xy yy steps width height length (roomChecks service)) ⌝ }
+    ensures { λ r. ⌜ r ≡ firstRefusal (jobChecks xx xy yy steps width height length (roomChecks currentRules service)) ⌝ }
 {
     if !limits::steps_in_range(steps) {
         return Outcome::Refused(ErrorCode::StepsOutOfRange);
@@ -156,7 +157,7 @@ fn job_checks(
 }
 
 fn room_checks(service: Service) -> Outcome
-    ensures { λ r. ⌜ r ≡ firstRefusal (roomChecks service) ⌝ }
+    ensures { λ r. ⌜ r ≡ firstRefusal (roomChecks currentRules service) ⌝ }
 {
     if free_buffers(service) < BUFFERS_PER_SLOT {
         return Outcome::Refused(ErrorCode::NoFreeBuffers);
@@ -169,8 +170,8 @@ fn room_checks(service: Service) -> Outcome
 
 // A new job takes the first empty slot after the one last filled.
 fn fill(service: Service, store: &mut [u16], slot: Slot, pixels: &[u16]) -> Called
-    requires { ⌜ (inOrder service ≡ true) × (length (now store) ≡ storeLength) × (length (now pixels) ≤ bufferPixels) ⌝ }
-    ensures { λ r. ⌜ (r ≡ calledOf (fillAt service (now (store .entry)) slot (now (pixels .entry)) (emptyPlace service))) × (now (store .exit) ≡ fillAt service (now (store .entry)) slot (now (pixels .entry)) (emptyPlace service) .store) ⌝ }
+    requires { ⌜ (inOrder currentRules service ≡ true) × (length (now store) ≡ storeLength) × (length (now pixels) ≤ bufferPixels) ⌝ }
+    ensures { λ r. ⌜ (r ≡ calledOf (fillAt service (now (store .entry)) slot (now (pixels .entry)) (emptyPlace currentRules service))) × (now (store .exit) ≡ fillAt service (now (store .entry)) slot (now (pixels .entry)) (emptyPlace currentRules service) .store) ⌝ }
 {
     let start = slots::next_place(service.filled as usize);
     match slots::find(service, Sought::Empty, start) {
@@ -198,7 +199,7 @@ pub fn submit(
     height: u32,
     pixels: &[u16],
 ) -> Called
-    ensures { λ r. ⌜ (r ≡ calledOf (submitOf service (now (store .entry)) shape steps width height (now (pixels .entry)))) × (now (store .exit) ≡ submitOf service (now (store .entry)) shape steps width height (now (pixels .entry)) .store) ⌝ }
+    ensures { λ r. ⌜ (r ≡ calledOf (submitOf currentRules service (now (store .entry)) shape steps width height (now (pixels .entry)))) × (now (store .exit) ≡ submitOf currentRules service (now (store .entry)) shape steps width height (now (pixels .entry)) .store) ⌝ }
 {
     if !usable(service, store.len()) {
         return refused(service, ErrorCode::RecordOutOfOrder);
@@ -229,7 +230,7 @@ pub fn submit(
 // One step of the picture of a slot, from its buffer to the slot's other one.
 fn step_slot(store: &mut [u16], slot: Slot, place: usize)
     requires { ⌜ Ready (length (now store)) slot place ⌝ }
-    ensures { λ _. ⌜ now (store .exit) ≡ put (bufferAfter place (stepsDone slot + 1)) (nextImage (now (store .entry)) place slot) (now (store .entry)) ⌝ }
+    ensures { λ _. ⌜ now (store .exit) ≡ put (bufferAfter currentRules place (stepsDone slot + 1)) (nextImage currentRules (now (store .entry)) place slot) (now (store .entry)) ⌝ }
 {
     let answer = kernel::kernel_of(slot.xx, slot.xy, slot.yy, slot.steps);
     let kernel = answer.kernel;
@@ -257,7 +258,7 @@ pub struct Turn {
 // A tick without the record after it: one step of the picture of the slot whose turn it is.
 pub fn take_turn(service: Service, store: &mut [u16]) -> Turn
     ensures { λ r. ⌜ r ≡ turnOf service (now (store .entry)) ⌝ }
-    ensures { λ _. ⌜ now (store .exit) ≡ tickOf service (now (store .entry)) .store ⌝ }
+    ensures { λ _. ⌜ now (store .exit) ≡ tickOf currentRules service (now (store .entry)) .store ⌝ }
 {
     if !usable(service, store.len()) {
         return Turn {
@@ -299,7 +300,7 @@ fn turned(service: Service, place: usize, left: u32) -> Service
 }
 
 pub fn tick(service: Service, store: &mut [u16]) -> Called
-    ensures { λ r. ⌜ (r ≡ calledOf (tickOf service (now (store .entry)))) × (now (store .exit) ≡ tickOf service (now (store .entry)) .store) ⌝ }
+    ensures { λ r. ⌜ (r ≡ calledOf (tickOf currentRules service (now (store .entry)))) × (now (store .exit) ≡ tickOf currentRules service (now (store .entry)) .store) ⌝ }
 {
     let turn = take_turn(service, store);
     let answer = turn.answer;
@@ -337,7 +338,7 @@ fn hand_over(service: Service, store: &[u16], number: u64, place: usize, lent: &
 }
 
 pub fn collect(service: Service, store: &[u16], number: u64, lent: &mut [u16]) -> Called
-    ensures { λ r. ⌜ (r ≡ calledOf (collectOf service (now (store .entry)) number (now (lent .entry)))) × (now (lent .exit) ≡ collectOf service (now (store .entry)) number (now (lent .entry)) .lent) ⌝ }
+    ensures { λ r. ⌜ (r ≡ calledOf (collectOf currentRules service (now (store .entry)) number (now (lent .entry)))) × (now (lent .exit) ≡ collectOf currentRules service (now (store .entry)) number (now (lent .entry)) .lent) ⌝ }
 {
     if !usable(service, store.len()) {
         return refused(service, ErrorCode::RecordOutOfOrder);

@@ -1,4 +1,4 @@
--- The slots whose numbers are new at their places are those whose numbers are unshared, for all eight together: a number that
+-- The slots whose numbers are new at their places are those whose numbers are unshared, for all of them together, whatever their number: a number that
 -- stands at a place occurs more often after it than before. Assumes nothing.
 use mathlib.Core.Path.{_≡_, refl, sym, _∙_}
 use mathlib.Core.Bool.{Bool, true, false, cond, _&&_}
@@ -10,10 +10,13 @@ use borrow.Author.Tests.{eq-eqb, ne-eqb, eqb-true, eqb-false}
 use lib.Dec.{eqb}
 use lib.ListN.{getD}
 use Rattle.limits.proofs.Laws.{both-true}
+use Rattle.averaging.proofs.Images.{entry}
+use Rattle.machine.specs.declared.Slot.{Slot}
 use Rattle.machine.specs.declared.Service.{Service}
-use Rattle.machine.specs.Slots.{slotCount, slotAt, isEmpty, hasNumber, countOf, everySlot}
+use Rattle.machine.specs.Rules.{Rules}
+use Rattle.machine.specs.Slots.{emptySlot, slotAt, isEmpty, hasNumber, countOf, everySlot}
 use Rattle.machine.specs.Order.{allZero, filledFine, unshared, slotFine}
-use Rattle.slots.specs.Numbers.{numbersOf, occurrencesOf, slotFineAfter}
+use Rattle.slots.specs.Numbers.{numberAt, numbersOf, occurrencesOf, slotFineAfter}
 
 -- ---- a test of the first n places
 unfoldable pub allBelow : (ℕ → Bool) → ℕ → Bool
@@ -54,6 +57,12 @@ same-all a b n f g = go (allBelow a n) (allBelow b n) (λ e. all-made b n (f (λ
     go false true there back = back refl
     go false false there back = refl
 
+-- the same of the first n slots
+every-below : (test : Slot → Bool) (slots : List Slot) (n : ℕ) → everySlot test slots n ≡ allBelow (λ i. test (getD slots i emptySlot)) n
+unfolding allBelow everySlot
+every-below test slots zero = refl
+every-below test slots (suc n) = rw (every-below test slots n)
+
 -- ---- the count of a number
 module _ (numbers : List ℕ) (number : ℕ) where
   pub occurs-none : (n : ℕ) → n ≤ 0 → occurrencesOf numbers number n ≡ 0
@@ -91,43 +100,42 @@ in-place-of : (empty a b p q : Bool) → (empty ≡ false → p ≡ true → q �
 in-place-of true a b p q f e = e
 in-place-of false a b p q f e = let w = both-true b p e in rw (w .0, f refl (w .1))
 
-module _ (r : Service) where
+module _ (rules : Rules) (r : Service) where
+  abbrev numbers : List ℕ
+  numbers = numbersOf (rules .slotCount) (r .slots)
+
   abbrev occurs : ℕ → ℕ → ℕ
-  occurs = occurrencesOf (numbersOf (r .slots))
+  occurs = occurrencesOf numbers
 
   abbrev fineAfter : ℕ → Bool
-  fineAfter i = slotFineAfter (r .last) (numbersOf (r .slots)) i (slotAt r i)
+  fineAfter i = slotFineAfter (r .last) numbers i (slotAt r i)
 
-  number-at : (i : ℕ) → i < slotCount → getD (numbersOf (r .slots)) i 0 ≡ slotAt r i .number
-  number-at zero h = refl
-  number-at (suc zero) h = refl
-  number-at (suc (suc zero)) h = refl
-  number-at (suc (suc (suc zero))) h = refl
-  number-at (suc (suc (suc (suc zero)))) h = refl
-  number-at (suc (suc (suc (suc (suc zero))))) h = refl
-  number-at (suc (suc (suc (suc (suc (suc zero)))))) h = refl
-  number-at (suc (suc (suc (suc (suc (suc (suc zero))))))) h = refl
-  number-at (suc (suc (suc (suc (suc (suc (suc (suc i)))))))) h = absurd (omega arith)
+  number-at : (i : ℕ) → i < rules .slotCount → getD numbers i 0 ≡ slotAt r i .number
+  number-at i h = entry (rules .slotCount) (numberAt (r .slots)) 0 i h
 
-  count-all : (n : ℕ) → countOf (hasNumber n) (r .slots) slotCount ≡ occurs n slotCount
+  count-to : (n m : ℕ) → m ≤ rules .slotCount → countOf (hasNumber n) (r .slots) m ≡ occurs n m
   unfolding countOf occurrencesOf
-  count-all n = refl
+  count-to n zero h = refl
+  count-to n (suc m) h = rw (number-at m (omega arith), count-to n m (omega arith))
+
+  count-all : (n : ℕ) → countOf (hasNumber n) (r .slots) (rules .slotCount) ≡ occurs n (rules .slotCount)
+  count-all n = count-to n (rules .slotCount) (omega arith)
 
   -- a number that stands once stands at no earlier place
-  once-after : (i : ℕ) → i < slotCount → slotFine r (slotAt r i) ≡ true → fineAfter i ≡ true
+  once-after : (i : ℕ) → i < rules .slotCount → slotFine rules r (slotAt r i) ≡ true → fineAfter i ≡ true
   unfolding slotFine slotFineAfter
   once-after i h =
       let s = slotAt r i in
       let n = s .number in
-      in-place-of (isEmpty s) (allZero s) (filledFine (r .last) s) (unshared (r .slots) s) (eqb (occurs n i) 0)
+      in-place-of (isEmpty s) (allZero s) (filledFine (r .last) s) (unshared rules (r .slots) s) (eqb (occurs n i) 0)
       (λ z e.
-      let one = eqb-true (countOf (hasNumber n) (r .slots) slotCount) 1 e in
+      let one = eqb-true (countOf (hasNumber n) (r .slots) (rules .slotCount)) 1 e in
       let all = count-all n in
-      let past = occurs-past (numbersOf (r .slots)) n i slotCount h (number-at i h) in
+      let past = occurs-past numbers n i (rules .slotCount) h (number-at i h) in
       eq-eqb (occurs n i) 0 (omega arith))
 
-  module _ (after : (i : ℕ) → i < slotCount → fineAfter i ≡ true) where
-    none-before : (n i : ℕ) → i < slotCount → slotAt r i .number ≡ n → (n ≡ 0 → ⊥) → occurs n i ≡ 0
+  module _ (after : (i : ℕ) → i < rules .slotCount → fineAfter i ≡ true) where
+    none-before : (n i : ℕ) → i < rules .slotCount → slotAt r i .number ≡ n → (n ≡ 0 → ⊥) → occurs n i ≡ 0
     unfolding slotFineAfter
     none-before n i h e ne =
         let s = slotAt r i in
@@ -136,36 +144,37 @@ module _ (r : Service) where
         rw e at (eqb-true (occurs (s .number) i) 0 (both-true (filledFine (r .last) s) new both .1))
 
     -- a later slot with the number of a filled one would have it again
-    one-past : (n i : ℕ) → slotAt r i .number ≡ n → (n ≡ 0 → ⊥) → (m : ℕ) → i < m → m ≤ slotCount → occurs n m ≡ 1
+    one-past : (n i : ℕ) → slotAt r i .number ≡ n → (n ≡ 0 → ⊥) → (m : ℕ) → i < m → m ≤ rules .slotCount → occurs n m ≡ 1
     one-past n i e ne zero h k = absurd (omega arith)
     one-past n i e ne (suc m) h k = go (eqb i m) refl (one-past n i e ne m)
       where
-        go : (t : Bool) → eqb i m ≡ t → (i < m → m ≤ slotCount → occurs n m ≡ 1) → occurs n (suc m) ≡ 1
+        go : (t : Bool) → eqb i m ≡ t → (i < m → m ≤ rules .slotCount → occurs n m ≡ 1) → occurs n (suc m) ≡ 1
         go true q f =
             let same = eqb-true i m q in
-            let below : i < slotCount = omega arith in
+            let below : i < rules .slotCount = omega arith in
             let none = none-before n i below e ne in
-            let hit = occurs-hit (numbersOf (r .slots)) n i (suc m) (omega arith) (number-at i below ∙ e) in
+            let hit = occurs-hit numbers n i (suc m) (omega arith) (number-at i below ∙ e) in
             omega arith
         go false q f =
             let apart = eqb-false i m q in
             let one = f (omega arith) (omega arith) in
-            let below : m < slotCount = omega arith in
-            let miss = occurs-miss (numbersOf (r .slots)) n m (suc m) refl (λ z. let none = none-before n m below (sym (number-at m below) ∙ z) ne in omega arith) in
+            let below : m < rules .slotCount = omega arith in
+            let miss = occurs-miss numbers n m (suc m) refl (λ z. let none = none-before n m below (sym (number-at m below) ∙ z) ne in omega arith) in
             omega arith
 
-    after-once : (i : ℕ) → i < slotCount → slotFine r (slotAt r i) ≡ true
+    after-once : (i : ℕ) → i < rules .slotCount → slotFine rules r (slotAt r i) ≡ true
     unfolding slotFine slotFineAfter
     after-once i h =
         let s = slotAt r i in
         let n = s .number in
-        in-place-of (isEmpty s) (allZero s) (filledFine (r .last) s) (eqb (occurs n i) 0) (unshared (r .slots) s)
+        in-place-of (isEmpty s) (allZero s) (filledFine (r .last) s) (eqb (occurs n i) 0) (unshared rules (r .slots) s)
         (λ z e.
-        let one = one-past n i refl (eqb-false n 0 z) slotCount h (omega arith) in
+        let one = one-past n i refl (eqb-false n 0 z) (rules .slotCount) h (omega arith) in
         let all = count-all n in
-        eq-eqb (countOf (hasNumber n) (r .slots) slotCount) 1 (omega arith))
+        eq-eqb (countOf (hasNumber n) (r .slots) (rules .slotCount)) 1 (omega arith))
         (after i h)
 
-  pub after-fine : allBelow (λ i. slotFineAfter (r .last) (numbersOf (r .slots)) i (slotAt r i)) slotCount ≡ everySlot (slotFine r) (r .slots) slotCount
-  unfolding allBelow everySlot
-  after-fine = same-all fineAfter (λ i. slotFine r (slotAt r i)) slotCount after-once (λ f i h. once-after i h (f i h))
+  pub after-fine : allBelow (λ i. slotFineAfter (r .last) numbers i (slotAt r i)) (rules .slotCount) ≡ everySlot (slotFine rules r) (r .slots) (rules .slotCount)
+  after-fine =
+      same-all fineAfter (λ i. slotFine rules r (slotAt r i)) (rules .slotCount) after-once (λ f i h. once-after i h (f i h))
+      ∙ sym (every-below (slotFine rules r) (r .slots) (rules .slotCount))

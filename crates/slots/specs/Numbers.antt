@@ -1,9 +1,10 @@
--- The numbers of the eight slots by themselves, and the test of a slot after the earlier ones. Definitions only.
+-- The numbers of the slots by themselves, and the test of a slot after the earlier ones. Definitions only.
 use mathlib.Core.Bool.{Bool, cond, _&&_}
-use mathlib.Core.List.{List, [], _∷_}
+use mathlib.Core.List.{List}
 use Prim.Native.Nat.{ℕ, zero, suc, _+_}
 use lib.Dec.{eqb}
 use lib.ListN.{getD}
+use Rattle.image.specs.Image.{entries}
 use Rattle.machine.specs.declared.Slot.{Slot}
 use Rattle.machine.specs.Slots.{emptySlot, isEmpty}
 use Rattle.machine.specs.Order.{allZero, filledFine}
@@ -11,17 +12,9 @@ use Rattle.machine.specs.Order.{allZero, filledFine}
 abbrev pub numberAt : List Slot → ℕ → ℕ
 numberAt slots i = getD slots i emptySlot .number
 
-abbrev pub numbersOf : List Slot → List ℕ
-numbersOf slots =
-    numberAt slots 0
-    ∷ numberAt slots 1
-    ∷ numberAt slots 2
-    ∷ numberAt slots 3
-    ∷ numberAt slots 4
-    ∷ numberAt slots 5
-    ∷ numberAt slots 6
-    ∷ numberAt slots 7
-    ∷ []
+-- the numbers of the first n slots
+abbrev pub numbersOf : ℕ → List Slot → List ℕ
+numbersOf n slots = entries n (numberAt slots)
 
 -- how many of the first n numbers are this one
 unfoldable pub occurrencesOf : List ℕ → ℕ → ℕ → ℕ

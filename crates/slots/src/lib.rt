@@ -7,6 +7,7 @@ ghost use lib.Dec.{eqb};
 ghost use Rattle.kernel.specs.Molecule.{unitsOf};
 ghost use Rattle.kernel.specs.Existence.{kernelExists};
 ghost use Rattle.limits.specs.Limits.{stepsInRange};
+ghost use Rattle.machine.specs.Rules.{currentRules};
 ghost use Rattle.machine.specs.Slots.{slotCount, emptySlot, nextPlace, firstFrom, countOf, opening as openingOf};
 ghost use Rattle.machine.specs.Order.{isZero, allZero, filledFine, inOrder as inOrderOf};
 ghost use Rattle.slots.specs.Sought.{testOf};
@@ -47,7 +48,7 @@ pub fn empty_slot() -> Slot
 }
 
 pub fn opening() -> Service
-    ensures { λ r. ⌜ r ≡ openingOf ⌝ }
+    ensures { λ r. ⌜ r ≡ openingOf currentRules ⌝ }
 {
     let empty = empty_slot();
     let slots = [empty; SLOTS];
@@ -157,26 +158,16 @@ fn filled_fine(last: u64, slot: Slot) -> bool
 
 // The numbers of the slots. They are handed on where the whole record would be copied for each slot.
 fn numbers_of(service: Service) -> [u64; SLOTS]
-    ensures { λ r. ⌜ r ≡ numbersOf (service .slots) ⌝ }
+    ensures { λ r. ⌜ r ≡ numbersOf slotCount (service .slots) ⌝ }
 {
-    let a = service.slots[0];
-    let b = service.slots[1];
-    let c = service.slots[2];
-    let d = service.slots[3];
-    let e = service.slots[4];
-    let f = service.slots[5];
-    let g = service.slots[6];
-    let h = service.slots[7];
-    [
-        a.number,
-        b.number,
-        c.number,
-        d.number,
-        e.number,
-        f.number,
-        g.number,
-        h.number,
-    ]
+    let mut numbers = [0u64; SLOTS];
+    let mut i = 0usize;
+    while i < SLOTS {
+        let slot = service.slots[i];
+        numbers[i] = slot.number;
+        i += 1;
+    }
+    numbers
 }
 
 // Whether a number is none of the first ones.
@@ -207,7 +198,7 @@ fn slot_fine(last: u64, numbers: [u64; SLOTS], place: usize, slot: Slot) -> bool
 
 // The test of refusal 2 for a record: it reads no pixel.
 pub fn in_order(service: Service) -> bool
-    ensures { λ r. ⌜ r ≡ inOrderOf service ⌝ }
+    ensures { λ r. ⌜ r ≡ inOrderOf currentRules service ⌝ }
 {
     let numbers = numbers_of(service);
     let mut fine = true;

@@ -18,7 +18,7 @@ unfolding leftBy throughWords fieldsFit wordsFit serviceOf slotOf withSlots subm
 worked-calls = refl
 
 pub worked-counts : map counted counts ≡ counts
-unfolding counted countWords freeCountOf freeBuffers fieldsFit wordsFit serviceOf slotOf inOrder everySlot slotFine allZero filledFine countOf kernelExists
+unfolding counted countWords freeCountOf freeBuffers fieldsFit wordsFit serviceOf slotOf inOrder everySlot slotFine allZero filledFine countOf kernelExists entries
 worked-counts = refl
 
 pub worked-openings : map openedBy openings ≡ openings

@@ -16,7 +16,8 @@ use Rattle.kernel.proofs.Plain.{none-x, none-y}
 use Rattle.kernel.proofs.Theorems.{unsigned-conditions}
 use Rattle.covariance.specs.Shapes.{covarianceXX, covarianceXY, covarianceYY}
 use Rattle.machine.specs.declared.Slot.{Slot}
-use Rattle.machine.specs.Slots.{slotAt, emptySlot}
+use Rattle.machine.specs.Rules.{Rules}
+use Rattle.machine.specs.Slots.{slotCount, slotAt, emptySlot}
 use Rattle.machine.specs.History.{Event, Place, jobOf}
 use Rattle.machine.proofs.Invariant.{Invariant, Sits, Taken}
 use Rattle.record_words.proofs.ReadBack.{SlotFits, Fits}
@@ -43,8 +44,8 @@ empty-fits =
       height-fits = omega arith;
     }
 
-sits-fits : (es : List Event) (store : List ℕ) (i n : ℕ) (s : Slot) → Sits es store i n s → SlotFits s
-sits-fits es store i n s sits =
+sits-fits : (rules : Rules) (es : List Event) (store : List ℕ) (i n : ℕ) (s : Slot) → Sits rules es store i n s → SlotFits s
+sits-fits rules es store i n s sits =
     let j = jobOf es n in
     let f = sits .fine in
     let k : j .steps ≤ mostSteps = in-range 1 mostSteps (j .steps) (f .steps) .1 in
@@ -65,15 +66,16 @@ sits-fits es store i n s sits =
     }
     )
 
-pub record-fits : (p : Place) → Invariant p → Fits (p .service)
-record-fits p v =
+-- of as many slots as the words have place for
+pub record-fits : (p : Place) → Invariant p → p .rules .slotCount ≡ slotCount → Fits (p .service)
+record-fits p v size =
     record {
-      eight = v .eight;
-      slots-fit = λ i h. of i (slotAt (p .service) i) (v .taken i h);
+      as-many = v .as-many ∙ size;
+      slots-fit = λ i h. of i (slotAt (p .service) i) (v .taken i (rw size h));
       filled-fits = let l = v .filled in omega arith;
       served-fits = let l = v .served in omega arith;
     }
   where
-    of : (i : ℕ) (s : Slot) → Taken (p .history) (p .store) i s → SlotFits s
+    of : (i : ℕ) (s : Slot) → Taken (p .rules) (p .history) (p .store) i s → SlotFits s
     of i s (inl e) = rw e empty-fits
-    of i s (inr w) = sits-fits (p .history) (p .store) i (w .0) s (w .1)
+    of i s (inr w) = sits-fits (p .rules) (p .history) (p .store) i (w .0) s (w .1)

@@ -8,6 +8,7 @@ use Rattle.machine.specs.declared.FreeCount.the-variants as FreeCount
 use Rattle.machine.specs.declared.Service.{Service}
 use Rattle.machine.specs.declared.Answer.{Answer}
 use Rattle.machine.specs.declared.Answer.the-variants.{Job, Idle, Refused}
+use Rattle.machine.specs.Rules.{currentRules}
 use Rattle.machine.specs.Slots.{slotCount}
 use Rattle.machine.specs.Answers.{answerNumber}
 use Rattle.machine.specs.Calls.{Result, freeCountOf}
@@ -22,7 +23,7 @@ pub count-unfit : (words : List ℕ) → fieldsFit words ≡ false → countWord
 unfolding countWords
 count-unfit words e = rw e
 
-pub count-fit : (words : List ℕ) → fieldsFit words ≡ true → (r : Service) → r ≡ serviceOf words → countWords words ≡ freeCountOf r
+pub count-fit : (words : List ℕ) → fieldsFit words ≡ true → (r : Service) → r ≡ serviceOf words → countWords words ≡ freeCountOf currentRules r
 unfolding countWords
 count-fit words e r held = rw (e, held)
 

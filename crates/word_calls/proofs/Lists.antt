@@ -1,5 +1,5 @@
 -- Demand 3 of lists of exported calls: from an opening on the words hold the state machine's record, the store is the machine's,
--- and what the caller sees of each call is what the machine answers there. Assumes nothing.
+-- and what the caller sees of each call is what the machine answers there; by the rules that the exported calls run by. Assumes nothing.
 use mathlib.Core.Path.{_≡_, refl, sym, _∙_, ap, subst}
 use mathlib.Core.Bool.{true, false, true≢false}
 use mathlib.Core.List.{List, [], _∷_}
@@ -18,13 +18,15 @@ use Rattle.machine.specs.declared.FreeCount.{FreeCount}
 use Rattle.machine.specs.declared.FreeCount.the-variants.{Buffers}
 use Rattle.machine.specs.declared.Found.{Found}
 use Rattle.machine.specs.declared.Found.the-variants.{At, Nothing}
-use Rattle.machine.specs.Slots.{opening}
-use Rattle.machine.specs.Store.{bufferCount, buffersPerSlot, storeLength}
+use Rattle.machine.specs.Rules.{currentRules}
+use Rattle.machine.specs.Slots.{slotCount, opening}
+use Rattle.machine.specs.Store.{bufferCount, storeLength}
 use Rattle.machine.specs.Order.{inOrder, usable}
 use Rattle.machine.specs.Answers.{answerNumber, countNumber, countValues}
 use Rattle.machine.specs.Calls.{Call, submit, tick, collect, withdraw, Result, callOf, unlessRefused, submitChecks, submitAt, emptyPlace, submitOf, tickAt, servedPlace, tickOf, collectChecks, collectAt, collectOf, withdrawAt, withdrawOf, placeOf, isFound}
 use Rattle.machine.specs.History.{Place, opened, next, eventOf, after, since, accepts, heldCount}
 use Rattle.machine.specs.Demand.{answerAt, lentTo}
+use Rattle.machine.proofs.Rules.{current-workable}
 use Rattle.machine.proofs.Invariant.{Invariant}
 use Rattle.machine.proofs.Lists.{answers, next-invariant, opened-invariant}
 use Rattle.machine.proofs.Theorem.{at-place}
@@ -40,17 +42,17 @@ use Rattle.word_calls.proofs.Laws.{count-fit}
 -- ---- what a call of the state machine leaves as it was: a submit the lent picture, a collect the store
 module _ (r : Service) (store lent : List ℕ) where
   submit-reads : (o : Outcome) (f : Found) (shape : Shape) (k w h : ℕ)
-      → unlessRefused o r store lent (submitAt r store shape k w h lent f) .lent ≡ lent
+      → unlessRefused o r store lent (submitAt currentRules r store shape k w h lent f) .lent ≡ lent
   submit-reads O.Accepted (At i) shape k w h = refl
   submit-reads O.Accepted Nothing shape k w h = refl
   submit-reads (O.Refused code) f shape k w h = refl
 
-  tick-reads : (o : Outcome) (f : Found) → unlessRefused o r store [] (tickAt r store f) .lent ≡ []
+  tick-reads : (o : Outcome) (f : Found) → unlessRefused o r store [] (tickAt currentRules r store f) .lent ≡ []
   tick-reads O.Accepted (At i) = refl
   tick-reads O.Accepted Nothing = refl
   tick-reads (O.Refused code) f = refl
 
-  collect-reads : (o : Outcome) (f : Found) (n : ℕ) → unlessRefused o r store lent (collectAt r store n lent f) .store ≡ store
+  collect-reads : (o : Outcome) (f : Found) (n : ℕ) → unlessRefused o r store lent (collectAt currentRules r store n lent f) .store ≡ store
   collect-reads O.Accepted (At i) n = refl
   collect-reads O.Accepted Nothing n = refl
   collect-reads (O.Refused code) f n = refl
@@ -77,39 +79,39 @@ through call words old store lent fit = rw fit
 
 -- an exported call on words that hold a record leaves what the machine's call on that record leaves
 same-call : (words : List ℕ) (old : ℕ) (store : List ℕ) (c : Call) → fieldsFit words ≡ true
-    → exportedCall c words old store ≡ exportedOf words old (callOf (serviceOf words) store c)
+    → exportedCall c words old store ≡ exportedOf words old (callOf currentRules (serviceOf words) store c)
 unfolding submitOf tickOf collectOf withdrawOf
 same-call words old store (submit shape k w h pixels) fit =
     let r = serviceOf words in
-    let m = callOf r store (submit shape k w h pixels) in
-    rw (through (λ r. submitOf r store shape k w h pixels) words old store pixels fit)
+    let m = callOf currentRules r store (submit shape k w h pixels) in
+    rw (through (λ r. submitOf currentRules r store shape k w h pixels) words old store pixels fit)
     (ap (λ (l : List ℕ). leaving (exportedOf words old m) (m .store) l)
-    (sym (submit-reads r store pixels (submitChecks r store shape k w h pixels) (emptyPlace r) shape k w h)))
+    (sym (submit-reads r store pixels (submitChecks currentRules r store shape k w h pixels) (emptyPlace currentRules r) shape k w h)))
 same-call words old store tick fit =
     let r = serviceOf words in
-    let m = callOf r store tick in
-    rw (through (λ r. tickOf r store) words old store [] fit)
+    let m = callOf currentRules r store tick in
+    rw (through (λ r. tickOf currentRules r store) words old store [] fit)
     (ap (λ (l : List ℕ). leaving (exportedOf words old m) (m .store) l)
-    (sym (tick-reads r store [] (firstRefusal ((usable r store otherwise RecordOutOfOrder) ∷ [])) (servedPlace r))))
+    (sym (tick-reads r store [] (firstRefusal ((usable currentRules r store otherwise RecordOutOfOrder) ∷ [])) (servedPlace currentRules r))))
 same-call words old store (collect n lent) fit =
     let r = serviceOf words in
-    let m = callOf r store (collect n lent) in
-    rw (through (λ r. collectOf r store n lent) words old store lent fit)
+    let m = callOf currentRules r store (collect n lent) in
+    rw (through (λ r. collectOf currentRules r store n lent) words old store lent fit)
     (ap (λ (l : List ℕ). leaving (exportedOf words old m) l (m .lent))
-    (sym (collect-reads r store lent (collectChecks r store n lent) (placeOf r n) n)))
+    (sym (collect-reads r store lent (collectChecks currentRules r store n lent) (placeOf currentRules r n) n)))
 same-call words old store (withdraw n) fit =
     let r = serviceOf words in
-    rw (through (λ r. withdrawOf r [] n) words old [] [] fit)
+    rw (through (λ r. withdrawOf currentRules r [] n) words old [] [] fit)
     (ap (λ (m : Result). exportedOf words old m)
     (sym (withdraw-reads r store []
-    (firstRefusal ((inOrder r otherwise RecordOutOfOrder) ∷ (isFound (placeOf r n) otherwise NoSuchJob) ∷ [])) (placeOf r n) n [])))
+    (firstRefusal ((inOrder currentRules r otherwise RecordOutOfOrder) ∷ (isFound (placeOf currentRules r n) otherwise NoSuchJob) ∷ [])) (placeOf currentRules r n) n [])))
 
 -- what the machine's record becomes fits its words, or it stays
-carried : (p : Place) → Invariant p → (c : Call) → Carried (answerAt p c) (p .service) (next p c .service)
-carried p v c = go (answerAt p c) refl
+carried : (p : Place) → Invariant p → p .rules .slotCount ≡ slotCount → (c : Call) → Carried (answerAt p c) (p .service) (next p c .service)
+carried p v size c = go (answerAt p c) refl
   where
     go : (a : Answer) → answerAt p c ≡ a → Carried a (p .service) (next p c .service)
-    go (Job n) e = record-fits (next p c) (next-invariant p v c)
+    go (Job n) e = record-fits (next p c) (next-invariant p v c) size
     go Idle e = answers p v c .1 .unchanged (rw e) .0
     go (Refused code) e = answers p v c .1 .unchanged (rw e) .0
 
@@ -122,14 +124,14 @@ module _ (k : Kept) (s : Sound k) where
   abbrev p : Place
   p = placeSeen k
 
-  at : (c : ExportedCall) → exportedAt k c ≡ exportedOf (k .words) (c .number) (callOf (p .service) (p .store) (c .call))
+  at : (c : ExportedCall) → exportedAt k c ≡ exportedOf (k .words) (c .number) (callOf currentRules (p .service) (p .store) (c .call))
   at c = same-call (k .words) (c .number) (k .store) (c .call) (s .fit)
 
   holds-next : (c : ExportedCall) → Holds (keptAfter k c .words) (next p (c .call) .service)
   holds-next c =
       rw (at c)
       (after-answer (answerAt p (c .call)) (p .service) (next p (c .call) .service) (k .words)
-      (record { fit = s .fit; held = refl }) (carried p (s .invariant) (c .call)))
+      (record { fit = s .fit; held = refl }) (carried p (s .invariant) refl (c .call)))
 
   seen : (c : ExportedCall) → answerSeen (exportedAt k c .code) (exportedAt k c .number) ≡ answerAt p (c .call)
   seen c = rw (at c) (answer-told (answerAt p (c .call)) (c .number) (some-job p (s .invariant) (c .call)))
@@ -159,7 +161,7 @@ module _ (k : Kept) (s : Sound k) where
       }
   kept-by c e =
       let u = answers p (s .invariant) (c .call) .1 .unchanged e in
-      at c ∙ go (callOf (p .service) (p .store) (c .call)) e (u .1) (u .2)
+      at c ∙ go (callOf currentRules (p .service) (p .store) (c .call)) e (u .1) (u .2)
     where
       go : (m : Result) → accepts (m .answer) ≡ false → m .store ≡ k .store → m .lent ≡ lentTo (c .call)
           → exportedOf (k .words) (c .number) m
@@ -208,7 +210,7 @@ module _ (k : Kept) (s : Sound k) where
       let e : answerAt p (c .call) ≡ Idle = sym (seen c) ∙ rw (z, n) in
       kept-by c (ap accepts e) ∙ rw e
 
-  counted : countWords (k .words) ≡ Buffers (bufferCount - buffersPerSlot * heldCount (k .history))
+  counted : countWords (k .words) ≡ Buffers (bufferCount currentRules - currentRules .buffersPerSlot * heldCount (k .history))
   counted = count-fit (k .words) (s .fit) (p .service) refl ∙ at-place p (s .invariant) .free-buffers
 
 -- ---- lists of exported calls
@@ -230,7 +232,7 @@ through-sound [] k s = s
 through-sound (c ∷ cs) k s = through-sound cs (keptAfter k c) (next-sound k s c)
 
 at-exported-place : (store : List ℕ) (calls : List ExportedCall) (k : Kept) → Sound k
-    → placeSeen k ≡ after (opened store) (callsOf calls)
+    → placeSeen k ≡ after (opened currentRules store) (callsOf calls)
     → AtExportedPlace store calls k
 at-exported-place store calls k s e =
     record {
@@ -250,17 +252,17 @@ at-exported-place store calls k s e =
 
 -- the words of an opening hold the opening's record
 opening-holds : (words : List ℕ) → length words ≡ wordCount → (store : List ℕ) → length store ≡ storeLength
-    → Holds (openingWords words) opening
+    → Holds (openingWords words) (opening currentRules)
 opening-holds words long store full =
-    let f = record-fits (opened store) (opened-invariant store full) in
-    rw (eq-eqb (length words) wordCount long) (record { fit = written-fits opening words long f; held = read-back opening words long f })
+    let f = record-fits (opened currentRules store) (opened-invariant currentRules current-workable store full) refl in
+    rw (eq-eqb (length words) wordCount long) (record { fit = written-fits (opening currentRules) words long f; held = read-back (opening currentRules) words long f })
 
 pub exported-demand-3 : ExportedDemand3
 exported-demand-3 words store long full =
     let h = opening-holds words long store full in
     let k = keptAtOpening words store in
-    let at-opening : placeSeen k ≡ opened store = rw (h .held) in
-    let s : Sound k = record { fit = h .fit; invariant = rw (h .held) (opened-invariant store full) } in (
+    let at-opening : placeSeen k ≡ opened currentRules store = rw (h .held) in
+    let s : Sound k = record { fit = h .fit; invariant = rw (h .held) (opened-invariant currentRules current-workable store full) } in (
       rw (eq-eqb (length words) wordCount long),
       λ calls. at-exported-place store calls (keptThrough k calls) (through-sound calls k s)
           (through-place calls k s ∙ ap (λ (q : Place). after q (callsOf calls)) at-opening),

@@ -68,7 +68,7 @@ module _ (p : Place) (v : Invariant p) where
 
   pub some-job : (c : Call) → answerAt p c ≡ Job 0 → ⊥
   some-job (submit shape k w h pixels) e =
-      unless-some (submitOutcome (p .history) shape k w h pixels) (jobCount (p .history) + 1) (omega arith)
+      unless-some (submitOutcome (p .rules) (p .history) shape k w h pixels) (jobCount (p .history) + 1) (omega arith)
       (sym (submits p v shape k w h pixels .answered) ∙ e)
   some-job tick e = tick-some (ticked p v) e
   some-job (collect n lent) e =

@@ -15,6 +15,7 @@ use Rattle.machine.specs.declared.Answer.the-variants.{Job, Idle, Refused}
 use Rattle.machine.specs.declared.FreeCount.{FreeCount}
 use Rattle.machine.specs.declared.FreeCount.the-variants as F
 use Rattle.machine.specs.Answers.{answerNumber}
+use Rattle.machine.specs.Rules.{currentRules}
 use Rattle.machine.specs.Slots.{opening}
 use Rattle.machine.specs.Calls.{Result, submitOf, tickOf, collectOf, withdrawOf, freeCountOf}
 use Rattle.record_words.specs.Words.{wordCount, fieldsFit, serviceOf, withService, withTurn}
@@ -72,24 +73,24 @@ pub record Leaves (e : Exported) (code : ℕ) (words : List ℕ) (number : ℕ) 
 
 abbrev pub submitWords : List ℕ → ℕ → List ℕ → Shape → ℕ → ℕ → ℕ → List ℕ → Exported
 submitWords words old store shape k w h pixels =
-    throughWords (λ r. submitOf r store shape k w h pixels) words old store pixels
+    throughWords (λ r. submitOf currentRules r store shape k w h pixels) words old store pixels
 
 abbrev pub tickWords : List ℕ → ℕ → List ℕ → Exported
-tickWords words old store = throughWords (λ r. tickOf r store) words old store []
+tickWords words old store = throughWords (λ r. tickOf currentRules r store) words old store []
 
 abbrev pub collectWords : List ℕ → ℕ → List ℕ → ℕ → List ℕ → Exported
-collectWords words old store job lent = throughWords (λ r. collectOf r store job lent) words old store lent
+collectWords words old store job lent = throughWords (λ r. collectOf currentRules r store job lent) words old store lent
 
 -- no store is lent
 abbrev pub withdrawWords : List ℕ → ℕ → ℕ → Exported
-withdrawWords words old job = throughWords (λ r. withdrawOf r [] job) words old [] []
+withdrawWords words old job = throughWords (λ r. withdrawOf currentRules r [] job) words old [] []
 
 -- ---- the opening
 abbrev pub openingCode : List ℕ → ℕ
 openingCode words = cond (eqb (length words) wordCount) 0 (numberOf WrongLength)
 
 abbrev pub openingWords : List ℕ → List ℕ
-openingWords words = cond (eqb (length words) wordCount) (withService opening words) words
+openingWords words = cond (eqb (length words) wordCount) (withService (opening currentRules) words) words
 
 -- ---- the free count
 abbrev pub countIfFit : Bool → FreeCount → FreeCount
@@ -97,4 +98,4 @@ countIfFit true count = count
 countIfFit false count = F.Refused RecordOutOfOrder
 
 unfoldable pub countWords : List ℕ → FreeCount
-countWords words = countIfFit (fieldsFit words) (freeCountOf (serviceOf words))
+countWords words = countIfFit (fieldsFit words) (freeCountOf currentRules (serviceOf words))

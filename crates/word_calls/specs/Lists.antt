@@ -13,7 +13,8 @@ use Rattle.limits.specs.declared.ErrorCode.the-variants.{TextIsNoJob, RecordOut
 use Rattle.machine.specs.declared.Answer.{Answer}
 use Rattle.machine.specs.declared.Answer.the-variants.{Job, Idle, Refused}
 use Rattle.machine.specs.Answers.{answerNumber, countNumber, countValues}
-use Rattle.machine.specs.Store.{bufferCount, buffersPerSlot, storeLength}
+use Rattle.machine.specs.Rules.{currentRules}
+use Rattle.machine.specs.Store.{bufferCount, storeLength}
 use Rattle.machine.specs.Calls.{Call, submit, tick, collect, withdraw}
 use Rattle.machine.specs.History.{Event, Place, opened, after, since, heldCount}
 use Rattle.machine.specs.Demand.{answerAt, lentAfter, lentTo, AtPlace}
@@ -99,15 +100,16 @@ keptAtOpening words store = record { words = openingWords words; store = store; 
 abbrev pub callsOf : List ExportedCall → List Call
 callsOf cs = map (λ c. c .call) cs
 
--- the caller's place in the list as a place of the state machine's: the record that its words hold, its store, and what it saw
+-- the caller's place in the list as a place of the state machine's: the rules that the exported calls run by, the record that its
+-- words hold, its store, and what it saw
 abbrev pub placeSeen : Kept → Place
-placeSeen k = record { service = serviceOf (k .words); store = k .store; history = k .history }
+placeSeen k = record { rules = currentRules; service = serviceOf (k .words); store = k .store; history = k .history }
 
 -- what is claimed after these calls from an opening with this store on, of whatever is called there with whatever number is lent
 pub record AtExportedPlace (store : List ℕ) (calls : List ExportedCall) (k : Kept) : Type 0 where
   pub words-fit : fieldsFit (k .words) ≡ true
   -- the record, the store and call for call what the caller saw are the state machine's after the same calls
-  pub same-place : placeSeen k ≡ after (opened store) (callsOf calls)
+  pub same-place : placeSeen k ≡ after (opened currentRules store) (callsOf calls)
   -- demand 3: its words, as `held`, `stepsLeft` and `jobOf`, are taken from what the caller saw. The lone service's list is one of
   -- these lists too
   pub demand : AtPlace (placeSeen k)
@@ -129,7 +131,7 @@ pub record AtExportedPlace (store : List ℕ) (calls : List ExportedCall) (k : K
   -- job held, whatever the lent count held before
   pub free-code : countNumber (countWords (k .words)) ≡ 0
   pub free-buffers : (before : ℕ)
-      → valueOr (countValues (countWords (k .words))) before ≡ bufferCount - buffersPerSlot * heldCount (k .history)
+      → valueOr (countValues (countWords (k .words))) before ≡ bufferCount currentRules - currentRules .buffersPerSlot * heldCount (k .history)
 
 -- 67 words of any value are opened, and a store of 16,384 pixels of any value is lent: at the place after any list of calls
 abbrev pub ExportedDemand3 : Type 0

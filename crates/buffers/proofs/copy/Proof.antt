@@ -1,21 +1,22 @@
--- `buffers::copy` meets its contract. The invariant: the target's front is the source's (`Front`). The measure is what is left of
+-- `buffers::copy` meets its contract. The invariant: the target's front is the source's (`Filled`). The measure is what is left of
 -- the source. Assumes nothing.
 use borrow.Author.Needs.{needs}
+use mathlib.Core.Path.{refl, sym}
 use Prim.Native.Nat.{_-_}
 use native.Mathlib.Omega.{arith}
-use lib.ListN.{length}
-use Rattle.machine.proofs.Fronts.{Front, front-starts, front-grows, front-ends}
+use lib.ListN.{length, getD}
+use Rattle.averaging.proofs.Images.{Filled, filled-none, filled-more, filled-copy}
 use Rattle.buffers.proofs.copy.Statement.{statement}
 use Rattle.buffers.proofs.copy.Tie as tie
 
 abbrev Inv-loop : tie.InvT-loop
-Inv-loop source target₀ i₀ target i = Front source target₀ target i
+Inv-loop source target₀ i₀ target i = Filled (length source) (λ k. getD source k 0) target i
 
 abbrev μ-loop : tie.MeasureT-loop
 μ-loop source target₀ i₀ target i = length source - i
 
 loop-holds : tie.Need-loop-holds Inv-loop μ-loop
-loop-holds c = front-starts _ _ (c .pre)
+loop-holds c = let s = c .args .source .now in filled-none (length s) (λ k. getD s k 0) (c .args .target .now) (sym (c .pre))
 
 mul-target : tie.Need-mul-target Inv-loop μ-loop
 mul-target c = search needs
@@ -38,13 +39,14 @@ loop-less c = search needs
 loop-again : tie.Need-loop-again Inv-loop μ-loop
 loop-again c =
     let l = c .before .before in
-    front-grows _ _ (l .before .pre) (l .loop .target) (l .loop .i) (l .loop .inv) (omega arith)
+    let s = l .before .args .source .now in
+    filled-more (length s) (λ k. getD s k 0) (l .loop .target) (l .loop .i) (l .loop .inv) (omega arith) refl
 
 same-length : tie.Need-same-length Inv-loop μ-loop
 same-length c = search needs
 
 returns : tie.Need-returns Inv-loop μ-loop
-returns c = let l = c .before in front-ends _ _ (l .before .pre) (l .loop .target) (l .loop .i) (l .loop .inv) (omega arith)
+returns c = let l = c .before in filled-copy 0 (l .before .args .source .now) (l .loop .target) (l .loop .i) (l .loop .inv) (omega arith)
 
 pub copy-spec : {M : Type 1} → statement M
 copy-spec =

@@ -1,16 +1,16 @@
--- `record_words::service_of` meets its contract: the loop has read the first i slots; the three last words follow them. Assumes nothing.
+-- `record_words::service_of` meets its contract: the loop has read the first i slots (`Filled`); the three last words follow them. Assumes nothing.
 use borrow.Author.Needs.{needs}
-use mathlib.Core.Path.{_≡_, sym}
+use mathlib.Core.Path.{refl}
 use native.Mathlib.Omega.{arith}
-use Prim.Native.Nat.{_≤_, _-_}
+use Prim.Native.Nat.{_-_}
+use Rattle.averaging.proofs.Images.{Filled, filled-none, filled-more, filled-all}
 use Rattle.machine.specs.Slots.{slotCount}
-use Rattle.record_words.specs.Words.{serviceOf}
-use Rattle.record_words.proofs.Laws.{slotsTo, slots-none, slots-more, slots-all}
+use Rattle.record_words.specs.Words.{slotOf, serviceOf}
 use Rattle.record_words.proofs.service_of.Statement.{statement}
 use Rattle.record_words.proofs.service_of.Tie as tie
 
 abbrev Inv-loop : tie.InvT-loop
-Inv-loop words all₀ i₀ all i = (i ≤ slotCount) × (all ≡ slotsTo words i)
+Inv-loop words all₀ i₀ all i = Filled slotCount (slotOf words) all i
 
 abbrev μ-loop : tie.MeasureT-loop
 μ-loop words all₀ i₀ all i = slotCount - i
@@ -19,7 +19,7 @@ empty-slot-requires : tie.Need-empty-slot-requires Inv-loop μ-loop
 empty-slot-requires c κs = search needs
 
 loop-holds : tie.Need-loop-holds Inv-loop μ-loop
-loop-holds c = (omega arith, rw (c .empty-slot .ensures) (sym (slots-none _)))
+loop-holds c = filled-none slotCount (slotOf _) _ refl
 
 slot-of-requires : tie.Need-slot-of-requires Inv-loop μ-loop
 slot-of-requires c κs = search needs
@@ -37,7 +37,9 @@ loop-less : tie.Need-loop-less Inv-loop μ-loop
 loop-less c = search needs
 
 loop-again : tie.Need-loop-again Inv-loop μ-loop
-loop-again c = let l = c .before .before in (omega arith, rw (slots-more, c .slot-of .ensures, l .loop .inv .1))
+loop-again c =
+    let l = c .before .before in
+    filled-more slotCount (slotOf _) (l .loop .all) (l .loop .i) (l .loop .inv) (omega arith) (c .slot-of .ensures)
 
 number-at-requires : tie.Need-number-at-requires Inv-loop μ-loop
 number-at-requires c κs = search needs
@@ -52,14 +54,11 @@ returns : tie.Need-returns Inv-loop μ-loop
 unfolding serviceOf
 returns c =
     let l = c .before .before .before .before in
-    let e : l .loop .i ≡ slotCount = omega arith in
     rw (
       c .field-at2 .ensures,
       c .before .field-at .ensures,
       c .before .before .number-at .ensures,
-      l .loop .inv .1,
-      e,
-      slots-all,
+      filled-all slotCount (slotOf _) (l .loop .all) (l .loop .i) (l .loop .inv) (omega arith),
     )
 
 pub service-of-spec : {M : Type 1} → statement M

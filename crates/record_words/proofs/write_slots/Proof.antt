@@ -1,5 +1,5 @@
 -- `record_words::write_slots` meets its contract. The invariant: the slots passed are written, and there are as many words as
--- before. The measure is what is left of the eight. Assumes nothing.
+-- before. The measure is what is left of the slots. Assumes nothing.
 use borrow.Author.Needs.{needs}
 use native.Mathlib.Omega.{arith}
 use mathlib.Core.Path.{_≡_, sym, _∙_, ap}

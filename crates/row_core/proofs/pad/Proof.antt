@@ -1,17 +1,18 @@
 -- `row_core::pad` meets its contract. The loop's invariant: the first i + 1 values of the line are those of the padded row. The
 -- measure is what is left of the row. Assumes nothing.
-use mathlib.Core.Path.{_≡_, refl, sym, ap, _∙_}
+use mathlib.Core.Path.{_≡_, sym, ap, _∙_}
 use mathlib.Core.List.{List}
 use Prim.Native.Nat.{ℕ, _+_, _-_, _≤_, min}
 use native.Mathlib.Omega.{arith}
-use lib.ListN.{length, getD, set, take, length-set}
+use lib.ListN.{length, getD, set, length-set}
 use lib.IntN.{pos, negsuc, _+ℤ_}
 use mir.Syntax.{w16, w32}
 use mir.Val.{Fits}
 use borrow.Author.Needs.{needs}
-use Rattle.image.specs.Image.{nearestPlace, entries}
+use Rattle.image.specs.Image.{nearestPlace}
+use Rattle.averaging.proofs.Images.{Filled, filled-none, filled-more, filled-all}
 use Rattle.row_core.specs.Rows.{paddedOf}
-use Rattle.row_core.proofs.Rows.{place-before, store, stored}
+use Rattle.row_core.proofs.Rows.{place-before}
 use Rattle.row_core.proofs.pad.Statement.{statement}
 use Rattle.row_core.proofs.pad.Tie as tie
 
@@ -28,8 +29,7 @@ wider f = record { fits = omega arith }
 
 record Progress (row line : List ℕ) (i : ℕ) : Type 0 where
   at : i ≤ length row
-  size : length line ≡ length row + 2
-  done : take (i + 1) line ≡ entries (i + 1) (padding row)
+  filled : Filled (length row + 2) (padding row) line (i + 1)
 
 abbrev Inv-loop : tie.InvT-loop
 Inv-loop row line₀ width i₀ line i = Progress row line i
@@ -47,13 +47,13 @@ slice-write-line : tie.Need-slice-write-line Inv-loop μ-loop
 slice-write-line c = search needs
 
 loop-holds : tie.Need-loop-holds Inv-loop μ-loop
-unfolding entries
 loop-holds c =
     let a = c .before .args in
+    let n = length (a .row .now) + 2 in
+    let none = filled-none n (padding (a .row .now)) (a .line .now) (omega arith) in
     record {
       at = omega arith;
-      size = rw length-set (omega arith);
-      done = store 0 (padding (a .row .now)) (a .line .now) (omega arith) refl (sym (padding-at (a .row .now) 0 0 (omega arith)));
+      filled = filled-more n (padding (a .row .now)) (a .line .now) 0 none (omega arith) (sym (padding-at (a .row .now) 0 0 (omega arith)));
     }
 
 mul-line : tie.Need-mul-line Inv-loop μ-loop
@@ -86,8 +86,9 @@ loop-again c =
     let l = c .before .before .loop in
     record {
       at = omega arith;
-      size = rw length-set (l .inv .size);
-      done = store (l .i + 1) (padding row) (l .line) (omega arith) (l .inv .done) (sym (padding-at row (l .i + 1) (l .i) (omega arith)));
+      filled =
+          filled-more (length row + 2) (padding row) (l .line) (l .i + 1) (l .inv .filled) (omega arith)
+          (sym (padding-at row (l .i + 1) (l .i) (omega arith)));
     }
 
 sub-line : tie.Need-sub-line Inv-loop μ-loop
@@ -122,8 +123,8 @@ returns c =
     let n = length row in
     let e : l .i ≡ n = omega arith in
     let v = getD row (n - 1) 0 in
-    stored (n + 1 + 1) (n + 2) (padding row) (set (l .line) (n + 1) v) (rw length-set (omega arith)) (omega arith)
-    (store (n + 1) (padding row) (l .line) (omega arith) (rw e at (l .inv .done)) (sym (padding-at row (n + 1) (n - 1) (omega arith))))
+    let last = filled-more (n + 2) (padding row) (l .line) (n + 1) {v = v} (rw e at (l .inv .filled)) (omega arith) (sym (padding-at row (n + 1) (n - 1) (omega arith))) in
+    filled-all (n + 2) (padding row) (set (l .line) (n + 1) v) (n + 1 + 1) last (omega arith)
 
 pub pad-spec : {M : Type 1} → statement M
 pad-spec =

@@ -1,20 +1,19 @@
--- `row_core::smooth_row` meets its contract. The loop's invariant: the pixels before column x are stored. The measure is what is
+-- `row_core::smooth_row` meets its contract. The loop's invariant: the pixels before column x are stored (`Filled`). The measure is what is
 -- left of the row. Assumes nothing.
 use mathlib.Core.Path.{_≡_, refl, _∙_}
 use mathlib.Core.List.{List}
-use Prim.Native.Nat.{ℕ, _+_, _-_, _≤_}
+use Prim.Native.Nat.{ℕ, _+_, _-_}
 use native.Mathlib.Omega.{arith}
-use lib.ListN.{length, take, length-set}
+use lib.ListN.{length}
 use borrow.Author.Needs.{needs}
 use Rattle.kernel.specs.Offsets.{weighted}
-use Rattle.image.specs.Image.{entries}
 use Rattle.averaging.specs.Steps.{nearest}
+use Rattle.averaging.proofs.Images.{Filled, filled-none, filled-more, filled-all}
 use Rattle.row_core.specs.Prepared.{kernelOfCoefficients}
 use Rattle.row_core.specs.Rows.{columnOf, pixelIn, Pixels, rowOf}
 use Rattle.row_core.specs.declared.Coefficients.{Coefficients}
 use Rattle.row_core.specs.declared.Column.{Column}
 use Rattle.row_core.proofs.Pixels.{column-pixels}
-use Rattle.row_core.proofs.Rows.{store, stored}
 use Rattle.row_core.proofs.smooth_row.Statement.{statement}
 use Rattle.row_core.proofs.smooth_row.Tie as tie
 
@@ -23,13 +22,8 @@ abbrev pixels : Coefficients → List ℕ → List ℕ → List ℕ → ℕ → 
 pixels k a b c x =
     nearest (weighted (pixelIn (columnOf a b c x) (columnOf a b c (x + 1)) (columnOf a b c (x + 2))) (kernelOfCoefficients k .weights)) (kernelOfCoefficients k .sum)
 
-record Progress (k : Coefficients) (a b c o₀ o : List ℕ) (x : ℕ) : Type 0 where
-  at : x ≤ length o₀
-  size : length o ≡ length o₀
-  done : take x o ≡ entries x (pixels k a b c)
-
 abbrev Inv-loop : tie.InvT-loop
-Inv-loop up mid down out₀ coefficients x₀ out x = Progress coefficients up mid down out₀ out x
+Inv-loop up mid down out₀ coefficients x₀ out x = Filled (length out₀) (pixels coefficients up mid down) out x
 
 abbrev μ-loop : tie.MeasureT-loop
 μ-loop up mid down out₀ coefficients x₀ out x = length out₀ - x
@@ -41,8 +35,9 @@ pixels-in s x e =
     column-pixels (s .args .up .now) (s .args .mid .now) (s .args .down .now) x (lines .up-pixels) (lines .mid-pixels) (lines .down-pixels) e
 
 loop-holds : tie.Need-loop-holds Inv-loop μ-loop
-unfolding entries
-loop-holds c = record { at = omega arith; size = refl; done = refl }
+loop-holds c =
+    let a = c .before .before .before .before .args in
+    filled-none (length (a .out .now)) (pixels (a .coefficients) (a .up .now) (a .mid .now) (a .down .now)) (a .out .now) refl
 
 column-at-requires : tie.Need-column-at-requires Inv-loop μ-loop
 column-at-requires c κs = search needs
@@ -84,14 +79,8 @@ loop-again : tie.Need-loop-again Inv-loop μ-loop
 loop-again c =
     let a = c .before .before .before .before .before .before .before .before .before .before .args in
     let l = c .before .before .before .before .before .loop in
-    let f = pixels (a .coefficients) (a .up .now) (a .mid .now) (a .down .now) in
-    record {
-      at = omega arith;
-      size = rw length-set (l .inv .size);
-      done =
-          store (l .x) f (l .out) (omega arith) (l .inv .done)
-          (c .average .ensures ∙ rw (c .before .before .before .column-at .ensures, c .before .before .column-at2 .ensures, c .before .column-at3 .ensures));
-    }
+    filled-more (length (a .out .now)) (pixels (a .coefficients) (a .up .now) (a .mid .now) (a .down .now)) (l .out) (l .x) (l .inv) (omega arith)
+    (c .average .ensures ∙ rw (c .before .before .before .column-at .ensures, c .before .before .column-at2 .ensures, c .before .column-at3 .ensures))
 
 same-length : tie.Need-same-length Inv-loop μ-loop
 same-length c = search needs
@@ -101,9 +90,7 @@ unfolding rowOf
 returns c =
     let a = c .before .before .before .before .before .before .args in
     let l = c .before .loop in
-    let n = length (a .out .now) in
-    let e : l .x ≡ n = omega arith in
-    stored n n (pixels (a .coefficients) (a .up .now) (a .mid .now) (a .down .now)) (l .out) (l .inv .size) refl (rw e at (l .inv .done))
+    filled-all (length (a .out .now)) (pixels (a .coefficients) (a .up .now) (a .mid .now) (a .down .now)) (l .out) (l .x) (l .inv) (omega arith)
 
 pub smooth-row-spec : {M : Type 1} → statement M
 smooth-row-spec =

@@ -5,10 +5,12 @@ use mathlib.Core.Bool.{true, _&&_}
 use borrow.Author.Tests.{not-true, not-false}
 use lib.Dec.{eqb}
 use lib.ListN.{length}
+use Rattle.machine.specs.Rules.{currentRules}
 use Rattle.machine.specs.Calls.{Result, placeOf}
 use Rattle.machine.specs.declared.Found.the-variants.{At}
 use Rattle.machine.specs.Store.{storeLength}
 use Rattle.machine.specs.Order.{inOrder}
+use Rattle.machine.proofs.Rules.{current-workable}
 use Rattle.machine.proofs.Orderly.{place-found, filled-slot}
 use Rattle.service.specs.Called.{calledOf}
 use Rattle.service.proofs.Laws.{usable-parts, collect-unusable, collect-found, collect-missing}
@@ -35,11 +37,11 @@ enum-known-place : tie.Need-enum-known-place
 enum-known-place c = search needs
 
 -- where the record is usable
-good : (c : tie.Else1) → (inOrder (c .before .before .before .before .args .service) && eqb (length (c .before .before .before .before .args .store .now)) storeLength) ≡ true
+good : (c : tie.Else1) → (inOrder currentRules (c .before .before .before .before .args .service) && eqb (length (c .before .before .before .before .args .store .now)) storeLength) ≡ true
 good c = sym (c .before .usable .ensures) ∙ not-false _ (c .if1 .left)
 
 -- where the job was found
-found : (c : tie.After-place) → placeOf (c .before .before .before .before .before .before .before .args .service) (c .before .before .before .before .before .before .before .args .number) ≡ At (c .place .given .0 .0)
+found : (c : tie.After-place) → placeOf currentRules (c .before .before .before .before .before .before .before .args .service) (c .before .before .before .before .before .before .before .args .number) ≡ At (c .place .given .0 .0)
 found c = sym (c .before .before .place-of .ensures) ∙ c .place .given .1
 
 hand-over-requires : tie.Need-hand-over-requires
@@ -47,8 +49,8 @@ hand-over-requires c κs =
     let p = c .before .before in
     let a = p .before .before .before .before .before .before .before .args in
     let u = usable-parts (a .service) (a .store .now) (good (p .before .before .before)) in
-    let w = place-found (a .service) (a .number) (p .place .given .0 .0) (found p) in
-    let f = filled-slot (a .service) (u .0) (p .place .given .0 .0) (w .0) (λ z. w .2 (sym (w .1) ∙ z)) in
+    let w = place-found currentRules current-workable (a .service) (a .number) (p .place .given .0 .0) (found p) in
+    let f = filled-slot currentRules (a .service) (u .0) (p .place .given .0 .0) (w .0) (λ z. w .2 (sym (w .1) ∙ z)) in
     (u .1, w .0, f .fits, f .left)
 
 enum-told : tie.Need-enum-told

@@ -1,12 +1,13 @@
--- `service::fill` meets its contract: the slot that is found lies below eight, and its buffer in the store. Assumes nothing.
+-- `service::fill` meets its contract: the slot that is found is one of the record, and its buffer lies in the store. Assumes nothing.
 use mathlib.Core.Path.{_≡_, sym, _∙_, ap}
 use Prim.Native.Nat.{ℕ, _<_}
 use native.Mathlib.Omega.{arith}
+use Rattle.machine.specs.Rules.{currentRules}
 use Rattle.machine.specs.Calls.{emptyPlace}
 use Rattle.machine.specs.declared.Found.the-variants.{At}
-use Rattle.machine.specs.Slots.{slotCount, isEmpty, nextPlace, firstFrom}
-use Rattle.machine.proofs.Search as S
-use Rattle.machine.proofs.Orderly.{filled-lt}
+use Rattle.machine.specs.Slots.{slotCount, isEmpty, firstFrom}
+use Rattle.machine.proofs.Rules.{current-workable}
+use Rattle.machine.proofs.Orderly.{filled-lt, empty-found}
 use borrow.Author.Needs.{needs}
 use Rattle.service.proofs.fill.Statement.{statement}
 use Rattle.service.proofs.fill.Tie as tie
@@ -15,21 +16,21 @@ cast-next-place : tie.Need-cast-next-place
 cast-next-place c = search needs
 
 next-place-requires : tie.Need-next-place-requires
-next-place-requires c κs = let s = c .before .before .before in filled-lt (s .args .service) (s .pre .0)
+next-place-requires c κs = let s = c .before .before .before in filled-lt currentRules (s .args .service) (s .pre .0)
 
 -- the slot that the search found
 module _ (c : tie.After-find) where
-  searched : c .find .result ≡ emptyPlace (c .before .before .before .before .before .args .service)
+  searched : c .find .result ≡ emptyPlace currentRules (c .before .before .before .before .before .args .service)
   searched = c .find .ensures ∙ ap (λ (place : ℕ). firstFrom isEmpty (c .before .before .before .before .before .args .service .slots) slotCount place slotCount) (c .before .next-place .ensures .0)
 
 module _ (c : tie.After-place) where
-  found : emptyPlace (c .before .before .before .before .before .before .before .args .service) ≡ At (c .place .given .0 .0)
+  found : emptyPlace currentRules (c .before .before .before .before .before .before .before .args .service) ≡ At (c .place .given .0 .0)
   found = sym (searched (c .before .before)) ∙ c .place .given .1
 
   at : c .place .given .0 .0 < slotCount
   at =
-      let r = c .before .before .before .before .before .before .before .args .service in
-      S.found isEmpty (r .slots) slotCount (omega arith) slotCount (nextPlace slotCount (r .filled)) (c .place .given .0 .0) (S.next-lt slotCount (r .filled) (omega arith)) found .0
+      empty-found currentRules current-workable (c .before .before .before .before .before .before .before .args .service) (c .place .given .0 .0)
+      found .0
 
 find-requires : tie.Need-find-requires
 find-requires c κs = search needs

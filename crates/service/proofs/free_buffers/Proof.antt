@@ -1,4 +1,4 @@
--- `service::free_buffers` meets its contract: at most eight slots are filled, so nothing wraps. Assumes nothing.
+-- `service::free_buffers` meets its contract: no more slots are filled than there are, so nothing wraps. Assumes nothing.
 use native.Mathlib.Omega.{arith}
 use Rattle.machine.specs.Slots.{slotCount}
 use Rattle.machine.specs.Calls.{freeBuffers}

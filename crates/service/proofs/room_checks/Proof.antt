@@ -3,7 +3,7 @@ use mathlib.Core.Path.{_≡_}
 use mathlib.Core.Bool.{true, false}
 use lib.Dec.{leb}
 use borrow.Author.Tests.{lt-leb, le-leb, lt-ltb, le-ltb}
-use Rattle.machine.specs.Store.{buffersPerSlot}
+use Rattle.machine.specs.Rules.{currentRules}
 use Rattle.machine.specs.Calls.{freeBuffers}
 use borrow.Author.Needs.{needs}
 use Rattle.service.proofs.room_checks.Statement.{statement}
@@ -12,10 +12,10 @@ use Rattle.service.proofs.room_checks.Tie as tie
 free-buffers-requires : tie.Need-free-buffers-requires
 free-buffers-requires c κs = search needs
 
-few : (c : tie.Then1) → leb buffersPerSlot (freeBuffers (c .before .before .args .service)) ≡ false
+few : (c : tie.Then1) → leb (currentRules .buffersPerSlot) (freeBuffers currentRules (c .before .before .args .service)) ≡ false
 few c = lt-leb _ _ (rw (c .before .free-buffers .ensures) at (c .if1 .taken))
 
-enough : (c : tie.Else1) → leb buffersPerSlot (freeBuffers (c .before .before .args .service)) ≡ true
+enough : (c : tie.Else1) → leb (currentRules .buffersPerSlot) (freeBuffers currentRules (c .before .before .args .service)) ≡ true
 enough c = le-leb _ _ (rw (c .before .free-buffers .ensures) at (c .if1 .left))
 
 returns : tie.Need-returns

@@ -14,6 +14,7 @@ use Rattle.limits.specs.Limits.{bufferPixels}
 use Rattle.limits.specs.Errors.{firstRefusal}
 use Rattle.limits.specs.declared.Outcome.the-variants as O
 use Rattle.covariance.specs.Shapes.{covarianceXX, covarianceXY, covarianceYY}
+use Rattle.machine.specs.Rules.{currentRules}
 use Rattle.machine.specs.Calls.{Result, jobChecks, roomChecks, lastNumber, emptyPlace}
 use Rattle.machine.specs.Store.{storeLength}
 use Rattle.machine.specs.Order.{inOrder}
@@ -38,7 +39,7 @@ returns c =
     (c .refused .ensures ∙ sym (ap calledOf e), sym (ap (λ (r : Result). r .store) e))
 
 -- where the record is usable
-good : (c : tie.Else1) → (inOrder (c .before .before .before .before .args .service) && eqb (length (c .before .before .before .before .args .store .now)) storeLength) ≡ true
+good : (c : tie.Else1) → (inOrder currentRules (c .before .before .before .before .args .service) && eqb (length (c .before .before .before .before .args .store .now)) storeLength) ≡ true
 good c = sym (c .before .usable .ensures) ∙ not-false _ (c .if1 .left)
 
 -- where the shape has a covariance
@@ -46,7 +47,7 @@ shape-is : (c : tie.After-xx) → ShapeIs (c .before .before .before .before .be
 shape-is c = shape-fine (c .before .before .before .before .before .before .before .args .shape) (c .xx .given .0 .0) (c .xx .given .0 .1 .0) (c .xx .given .0 .1 .1 .0) (sym (c .before .before .covariance-of .ensures) ∙ c .xx .given .1)
 
 -- the later checks, with the numbers of the shape
-checks-are : (c : tie.After-job-checks) → firstRefusal (jobChecks (covarianceXX (c .before .before .before .before .before .before .before .before .before .args .shape)) (covarianceXY (c .before .before .before .before .before .before .before .before .before .args .shape)) (covarianceYY (c .before .before .before .before .before .before .before .before .before .args .shape)) (c .before .before .before .before .before .before .before .before .before .args .steps) (c .before .before .before .before .before .before .before .before .before .args .width) (c .before .before .before .before .before .before .before .before .before .args .height) (length (c .before .before .before .before .before .before .before .before .before .args .pixels .now)) (roomChecks (c .before .before .before .before .before .before .before .before .before .args .service))) ≡ c .job-checks .result
+checks-are : (c : tie.After-job-checks) → firstRefusal (jobChecks (covarianceXX (c .before .before .before .before .before .before .before .before .before .args .shape)) (covarianceXY (c .before .before .before .before .before .before .before .before .before .args .shape)) (covarianceYY (c .before .before .before .before .before .before .before .before .before .args .shape)) (c .before .before .before .before .before .before .before .before .before .args .steps) (c .before .before .before .before .before .before .before .before .before .args .width) (c .before .before .before .before .before .before .before .before .before .args .height) (length (c .before .before .before .before .before .before .before .before .before .args .pixels .now)) (roomChecks currentRules (c .before .before .before .before .before .before .before .before .before .args .service))) ≡ c .job-checks .result
 checks-are c =
     let x = c .before .before in
     let i = shape-is x in
@@ -82,7 +83,7 @@ facts : (c : tie.After-enum-told) → (length (c .before .before .before .before
 facts c =
     let s = c .before .before .before .before .before .before .before .before .before .before .before in
     let h = all-hold
-    (jobChecks (covarianceXX (s .args .shape)) (covarianceXY (s .args .shape)) (covarianceYY (s .args .shape)) (s .args .steps) (s .args .width) (s .args .height) (length (s .args .pixels .now)) (roomChecks (s .args .service)))
+    (jobChecks (covarianceXX (s .args .shape)) (covarianceXY (s .args .shape)) (covarianceYY (s .args .shape)) (s .args .steps) (s .args .width) (s .args .height) (length (s .args .pixels .now)) (roomChecks currentRules (s .args .service)))
     (checks-are (c .before .before) ∙ c .enum-told .given .1) in
     let full = eqb-true (length (s .args .pixels .now)) (s .args .width * s .args .height) (h .1 .1 .0) in
     let small = leb-true (s .args .width * s .args .height) bufferPixels (h .1 .1 .1 .0) in
@@ -136,7 +137,7 @@ returns-4 c =
       width = a .width;
       height = a .height;
     } in
-    let f = fill-is (a .service) (a .store .now) (a .shape) (a .steps) (a .width) (a .height) (a .pixels .now) slot (emptyPlace (a .service)) (rw (passed-on (x .xx .given .0 .0) (search told), passed-on (x .xx .given .0 .1 .0) (search told), passed-on (x .xx .given .0 .1 .1 .0) (search told), i .is-xx, i .is-xy, i .is-yy)) in
+    let f = fill-is (a .service) (a .store .now) (a .shape) (a .steps) (a .width) (a .height) (a .pixels .now) slot (emptyPlace currentRules (a .service)) (rw (passed-on (x .xx .given .0 .0) (search told), passed-on (x .xx .given .0 .1 .0) (search told), passed-on (x .xx .given .0 .1 .1 .0) (search told), i .is-xx, i .is-xy, i .is-yy)) in
     (c .before .before .fill .ensures .0 ∙ ap calledOf (f ∙ sym e), c .before .before .fill .ensures .1 ∙ ap (λ (r : Result). r .store) (f ∙ sym e))
 
 pub submit-spec : {M : Type 1} → statement M

@@ -7,13 +7,15 @@ use native.Mathlib.Omega.{arith}
 use borrow.Author.Tests.{not-true, not-false}
 use lib.Dec.{eqb}
 use lib.ListN.{length}
+use Rattle.machine.specs.Rules.{currentRules}
 use Rattle.machine.specs.Calls.{servedPlace}
 use Rattle.machine.specs.declared.Found.the-variants.{At, Nothing}
 use Rattle.machine.specs.Slots.{slotCount, slotAt, hasStepsLeft, firstFrom}
 use Rattle.machine.specs.Store.{storeLength}
 use Rattle.machine.specs.Order.{inOrder}
-use Rattle.machine.proofs.Orderly.{served-lt, left-filled, filled-slot}
-use Rattle.service.proofs.Laws.{usable-parts, served-found, tick-unusable, tick-found, turn-unusable, turn-found}
+use Rattle.machine.proofs.Rules.{current-workable}
+use Rattle.machine.proofs.Orderly.{served-lt, left-filled, filled-slot, served-found}
+use Rattle.service.proofs.Laws.{usable-parts, tick-unusable, tick-found, turn-unusable, turn-found}
 use borrow.Author.Needs.{needs}
 use Rattle.service.proofs.take_turn.Statement.{statement}
 use Rattle.service.proofs.take_turn.Tie as tie
@@ -31,23 +33,23 @@ cast-next-place : tie.Need-cast-next-place
 cast-next-place c = search needs
 
 -- where the record is usable
-good : (c : tie.Else1) → (inOrder (c .before .before .before .args .t1) && eqb (length (c .before .before .before .args .store .now)) storeLength) ≡ true
+good : (c : tie.Else1) → (inOrder currentRules (c .before .before .before .args .t1) && eqb (length (c .before .before .before .args .store .now)) storeLength) ≡ true
 good c = sym (c .before .usable .ensures) ∙ not-false _ (c .if1 .left)
 
 next-place-requires : tie.Need-next-place-requires
-next-place-requires c κs = let a = c .before .before .before .args in served-lt (a .t1) (usable-parts (a .t1) (a .store .now) (good c) .0)
+next-place-requires c κs = let a = c .before .before .before .args in served-lt currentRules (a .t1) (usable-parts (a .t1) (a .store .now) (good c) .0)
 
 -- the slot that the search found
 module _ (c : tie.After-find) where
-  searched : c .find .result ≡ servedPlace (c .before .before .before .before .before .args .t1)
+  searched : c .find .result ≡ servedPlace currentRules (c .before .before .before .before .before .args .t1)
   searched = c .find .ensures ∙ ap (λ (place : ℕ). firstFrom hasStepsLeft (c .before .before .before .before .before .args .t1 .slots) slotCount place slotCount) (c .before .next-place .ensures .0)
 
 module _ (c : tie.After-place) where
-  found : servedPlace (c .before .before .before .before .before .before .before .args .t1) ≡ At (c .place .given .0 .0)
+  found : servedPlace currentRules (c .before .before .before .before .before .before .before .args .t1) ≡ At (c .place .given .0 .0)
   found = sym (searched (c .before .before)) ∙ c .place .given .1
 
   at : (c .place .given .0 .0 < slotCount) × (0 < slotAt (c .before .before .before .before .before .before .before .args .t1) (c .place .given .0 .0) .left)
-  at = served-found (c .before .before .before .before .before .before .before .args .t1) (c .place .given .0 .0) found
+  at = served-found currentRules current-workable (c .before .before .before .before .before .before .before .args .t1) (c .place .given .0 .0) found
 
 find-requires : tie.Need-find-requires
 find-requires c κs = search needs
@@ -72,7 +74,7 @@ step-slot-requires c κs =
       at = h .0;
       left = h .1;
       last = a .t1 .last;
-      filled = filled-slot (a .t1) (u .0) (p .place .given .0 .0) (h .0) (left-filled (a .t1) (u .0) (p .place .given .0 .0) (h .0) (h .1));
+      filled = filled-slot currentRules (a .t1) (u .0) (p .place .given .0 .0) (h .0) (left-filled currentRules (a .t1) (u .0) (p .place .given .0 .0) (h .0) (h .1));
     }
 
 sub-t25 : tie.Need-sub-t25

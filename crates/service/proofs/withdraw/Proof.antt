@@ -1,6 +1,8 @@
 -- `service::withdraw` meets its contract: the record is tested first, then the job is looked for. Assumes nothing.
 use mathlib.Core.Path.{sym, _∙_}
 use Rattle.machine.specs.Calls.{withdrawOf}
+use Rattle.machine.specs.Rules.{currentRules}
+use Rattle.machine.proofs.Rules.{current-workable}
 use Rattle.machine.proofs.Orderly.{place-found}
 use borrow.Author.Needs.{needs}
 use Rattle.service.proofs.withdraw.Statement.{statement}
@@ -18,7 +20,7 @@ enum-known-place c = search needs
 emptied-requires : tie.Need-emptied-requires
 emptied-requires c κs =
     let s = c .before .before .before .before .before .before in
-    place-found (s .args .service) (s .args .number) (c .before .place .given .0 .0) (sym (c .before .before .before .place-of .ensures) ∙ c .before .place .given .1) .0
+    place-found currentRules current-workable (s .args .service) (s .args .number) (c .before .place .given .0 .0) (sym (c .before .before .before .place-of .ensures) ∙ c .before .place .given .1) .0
 
 returns : tie.Need-returns
 unfolding withdrawOf

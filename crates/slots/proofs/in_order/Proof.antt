@@ -1,9 +1,10 @@
 -- `slots::in_order` meets its contract. The invariant: every slot passed is fine after the slots before it. The measure is what
--- is left of the eight. Assumes nothing.
+-- is left of the slots. Assumes nothing.
 use borrow.Author.Needs.{needs}
 use native.Mathlib.Omega.{arith}
 use mathlib.Core.Path.{_≡_, sym}
 use Prim.Native.Nat.{_≤_, _-_}
+use Rattle.machine.specs.Rules.{currentRules}
 use Rattle.machine.specs.Slots.{slotCount, slotAt}
 use Rattle.machine.specs.Order.{inOrder}
 use Rattle.slots.specs.Numbers.{slotFineAfter}
@@ -57,7 +58,7 @@ unfolding inOrder
 returns c =
     let l = c .before .before .before in
     let e : l .loop .i ≡ slotCount = omega arith in
-    rw (c .both3 .ensures, c .before .both2 .ensures, l .loop .inv .1, e, l .before .numbers-of .ensures, after-fine (l .before .before .args .t1))
+    rw (c .both3 .ensures, c .before .both2 .ensures, l .loop .inv .1, e, l .before .numbers-of .ensures, after-fine currentRules (l .before .before .args .t1))
 
 pub in-order-spec : {M : Type 1} → statement M
 in-order-spec =

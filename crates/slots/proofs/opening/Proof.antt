@@ -1,4 +1,4 @@
--- `slots::opening` meets its contract: eight times the empty slot. Assumes nothing.
+-- `slots::opening` meets its contract: as often the empty slot as there are slots. Assumes nothing.
 use borrow.Author.Needs.{needs}
 use Rattle.slots.proofs.opening.Statement.{statement}
 use Rattle.slots.proofs.opening.Tie as tie

@@ -1,5 +1,5 @@
 -- `slots::tally` meets its contract. The invariant: the count is that of the slots passed. The measure is what is left of
--- the eight. Assumes nothing.
+-- the slots. Assumes nothing.
 use borrow.Author.Needs.{needs}
 use native.Mathlib.Omega.{arith}
 use mathlib.Core.Path.{_≡_, sym, _∙_, ap}

@@ -4,6 +4,7 @@ use mathlib.Core.Path.{_≡_, sym, _∙_}
 use mathlib.Core.Bool.{true}
 use borrow.Author.Tests.{not-true, not-false}
 use Rattle.machine.specs.declared.Service.{Service}
+use Rattle.machine.specs.Rules.{currentRules}
 use Rattle.machine.specs.Calls.{Result, collectOf}
 use Rattle.record_words.specs.Words.{fieldsFit}
 use Rattle.record_words.proofs.Laws.{fit-length}
@@ -29,7 +30,7 @@ returns c =
     let old = a .number .now in
     let store = a .store .now in
     let lent = a .picture .now in
-    let call : Service → Result = λ r. collectOf r (a .store .now) (a .job) (a .picture .now) in
+    let call : Service → Result = λ r. collectOf currentRules r (a .store .now) (a .job) (a .picture .now) in
     let unfit = sym (c .before .fields-fit .ensures) ∙ not-true _ (c .if1 .taken) in (
       unfit-leaves call words old store lent unfit,
       unfit-lent call words old store lent unfit,
@@ -62,7 +63,7 @@ returns-2 c =
     let old = a .number .now in
     let store = a .store .now in
     let lent = a .picture .now in
-    let call : Service → Result = λ r. collectOf r (a .store .now) (a .job) (a .picture .now) in (
+    let call : Service → Result = λ r. collectOf currentRules r (a .store .now) (a .job) (a .picture .now) in (
       fit-leaves call words old store lent fit _ held _ _ _ _ (made .collect .ensures .0) handed,
       fit-lent call words old store lent fit _ held _ (made .collect .ensures .1),
     )

@@ -5,6 +5,7 @@ use mathlib.Core.Bool.{true}
 use mathlib.Core.List.{[]}
 use borrow.Author.Tests.{not-true, not-false}
 use Rattle.machine.specs.declared.Service.{Service}
+use Rattle.machine.specs.Rules.{currentRules}
 use Rattle.machine.specs.Calls.{Result, tickOf}
 use Rattle.service.specs.Called.{afterTurn}
 use Rattle.service.proofs.Laws.{turn-called, turn-within}
@@ -31,7 +32,7 @@ returns c =
     let words = a .words .now in
     let old = a .number .now in
     let store = a .store .now in
-    let call : Service → Result = λ r. tickOf r (a .store .now) in
+    let call : Service → Result = λ r. tickOf currentRules r (a .store .now) in
     let unfit = sym (c .before .fields-fit .ensures) ∙ not-true _ (c .if1 .taken) in (
       unfit-leaves call words old store [] unfit,
       unfit-store call words old store [] unfit,
@@ -66,7 +67,7 @@ returns-2 c =
     let words = a .words .now in
     let old = a .number .now in
     let store = a .store .now in
-    let call : Service → Result = λ r. tickOf r (a .store .now) in (
+    let call : Service → Result = λ r. tickOf currentRules r (a .store .now) in (
       fit-leaves call words old store [] fit r held
           (record { answer = t .answer; service = afterTurn (t .answer) r (t .place) (t .left) })
           _

@@ -5,6 +5,7 @@ use mathlib.Core.Bool.{true}
 use mathlib.Core.List.{[]}
 use borrow.Author.Tests.{not-true, not-false}
 use Rattle.machine.specs.declared.Service.{Service}
+use Rattle.machine.specs.Rules.{currentRules}
 use Rattle.machine.specs.Calls.{Result, withdrawOf}
 use Rattle.record_words.specs.Words.{fieldsFit}
 use Rattle.record_words.proofs.Laws.{fit-length}
@@ -28,7 +29,7 @@ returns c =
     let a = c .before .before .before .before .args in
     let words = a .words .now in
     let old = a .number .now in
-    let call : Service → Result = λ r. withdrawOf r [] (a .job) in
+    let call : Service → Result = λ r. withdrawOf currentRules r [] (a .job) in
     let unfit = sym (c .before .fields-fit .ensures) ∙ not-true _ (c .if1 .taken) in
     unfit-leaves call words old [] [] unfit
 
@@ -54,7 +55,7 @@ returns-2 c =
     let a = read .before .before .before .before .before .before .args in
     let words = a .words .now in
     let old = a .number .now in
-    let call : Service → Result = λ r. withdrawOf r [] (a .job) in
+    let call : Service → Result = λ r. withdrawOf currentRules r [] (a .job) in
     fit-leaves call words old [] [] fit _ held _ _ _ _ (made .withdraw .ensures []) handed
 
 pub withdraw-spec : {M : Type 1} → statement M
