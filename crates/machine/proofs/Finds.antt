@@ -4,7 +4,6 @@ use mathlib.Core.Path.{_≡_, refl, sym, _∙_}
 use mathlib.Core.Bool.{true, not, true≢false}
 use mathlib.Core.List.{List, [], _∷_}
 use Prim.Native.Nat.{ℕ, _+_}
-use native.Mathlib.Omega.{arith}
 use borrow.Author.Tests.{ltb-true}
 use lib.Dec.{leb}
 use lib.ListN.{length}
@@ -18,14 +17,13 @@ use Rattle.machine.specs.declared.Service.{Service}
 use Rattle.machine.specs.declared.Found.{Found}
 use Rattle.machine.specs.declared.Found.the-variants.{At, Nothing}
 use Rattle.machine.specs.Rules.{Rules}
-use Rattle.machine.specs.Slots.{isEmpty, nextPlace, countOf}
+use Rattle.machine.specs.Slots.{isEmpty, countOf}
 use Rattle.machine.specs.Store.{Workable}
 use Rattle.machine.specs.Order.{inOrder, usable}
 use Rattle.machine.specs.Calls.{freeBuffers, submittedChecks, roomChecks, submitChecks, submitAt, unlessRefused, submitOf, emptyPlace, placeOf, isFound, slotFound, handOverChecks, collectChecks, collectAt, collectOf, withdrawChecks, withdrawAt, withdrawOf}
 use Rattle.machine.specs.Demand.{numberUnless}
-use Rattle.machine.proofs.Search.{hit, distance, next-lt}
-use Rattle.machine.proofs.Counts.{some-empty}
 use Rattle.machine.proofs.Rules.{free-test}
+use Rattle.machine.proofs.Orderly.{empty-there}
 
 module _ (rules : Rules) (workable : Workable rules) (r : Service) (store : List ℕ) where
   -- ---- submit: a slot's buffers are free, so a slot is empty
@@ -33,12 +31,7 @@ module _ (rules : Rules) (workable : Workable rules) (r : Service) (store : List
   unfolding freeBuffers
   room free =
       let filled = countOf (λ s. not (isEmpty s)) (r .slots) (rules .slotCount) in
-      let s = some-empty (r .slots) (rules .slotCount) (ltb-true filled (rules .slotCount) (sym (free-test rules workable filled) ∙ free)) in
-      let from = nextPlace (rules .slotCount) (r .filled) in
-      let start = next-lt (rules .slotCount) (r .filled) (workable .some-slot) in
-      let d = distance (rules .slotCount) from (s .0) start (s .1) in
-      let g = hit isEmpty (r .slots) (rules .slotCount) (s .0) (s .2) (s .1) (rules .slotCount) from (d .0) start (d .1) (d .2) (omega arith) in
-      (g .at, g .is)
+      empty-there rules workable r (ltb-true filled (rules .slotCount) (sym (free-test rules workable filled) ∙ free))
 
   pub submit-finds : (shape : Shape) (k w h : ℕ) (pixels : List ℕ) → submitChecks rules r store shape k w h pixels ≡ Accepted
       → (i : ℕ) × (emptyPlace rules r ≡ At i)

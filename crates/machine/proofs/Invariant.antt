@@ -1,6 +1,6 @@
 -- What holds at every place of a list: each slot is empty, or sits with one held job, whose picture after so many steps of its
--- own kernel stands in the slot's buffer; each held job sits in one slot. It is said job by job and for
--- any rules, so that it carries over a change of the record and of the rules. Assumes nothing.
+-- own kernel stands in the slot's buffer; each held job sits in one slot. It is said job by job and for any rules, so that it carries
+-- over a change of the record and of the rules. Assumes nothing.
 use mathlib.Core.Path.{_≡_, refl, sym, _∙_, ap}
 use mathlib.Core.Bool.{Bool, true, false, not, true≢false}
 use mathlib.Core.Logic.{_⊎_, inl, inr, ⊎-elim}
@@ -85,7 +85,7 @@ pub record Invariant (p : Place) : Type 0 where
   pub counted : countOf (λ s. not (isEmpty s)) (p .service .slots) (size p) ≡ heldCount (p .history)
 
 -- ---- a record with the invariant is in order
-count-none : (test : Slot → Bool) (xs : List Slot) (n : ℕ) → ((i : ℕ) → i < n → test (getD xs i emptySlot) ≡ false) → countOf test xs n ≡ 0
+pub count-none : (test : Slot → Bool) (xs : List Slot) (n : ℕ) → ((i : ℕ) → i < n → test (getD xs i emptySlot) ≡ false) → countOf test xs n ≡ 0
 unfolding countOf
 count-none test xs zero f = refl
 count-none test xs (suc n) f = rw (f n (omega arith)) (count-none test xs n (λ i h. f i (omega arith)))

@@ -14,13 +14,13 @@ use Rattle.limits.specs.declared.Outcome.the-variants as O
 use Rattle.machine.specs.declared.Answer.{Answer}
 use Rattle.machine.specs.declared.Answer.the-variants.{Job, Idle, Refused}
 use Rattle.machine.specs.Rules.{Rules}
-use Rattle.machine.specs.Slots.{emptySlot, isEmpty, countOf}
+use Rattle.machine.specs.Slots.{emptySlot, isEmpty}
 use Rattle.machine.specs.Store.{storeLength, Workable}
 use Rattle.machine.specs.Calls.{Call, submit, tick, collect, withdraw}
 use Rattle.machine.specs.History.{Place, opened, next, eventOf, after, answersNumber, starts, held, stepsLeft, numbers, howMany, jobCount}
 use Rattle.machine.specs.Demand.{numberUnless, submitOutcome, submitAnswer, withdrawAnswer, collectAnswer}
 use Rattle.machine.proofs.Words.{same-numbers, kept-job, more-ticks}
-use Rattle.machine.proofs.Invariant.{Invariant}
+use Rattle.machine.proofs.Invariant.{Invariant, count-none}
 use Rattle.machine.proofs.Served.{Served, Effect, still, sets}
 use Rattle.machine.proofs.Submits.{submits}
 use Rattle.machine.proofs.Ticks.{Ticked, idled, served, ticked}
@@ -56,12 +56,6 @@ empty-at zero i = refl
 empty-at (suc n) zero = refl
 empty-at (suc n) (suc i) = empty-at n i
 
--- no slot of an opening is filled
-none-filled : (size n : ℕ) → countOf (λ s. not (isEmpty s)) (replicate size emptySlot) n ≡ 0
-unfolding countOf
-none-filled size zero = refl
-none-filled size (suc n) = rw (empty-at size n, none-filled size n)
-
 pub opened-invariant : (rules : Rules) → Workable rules → (store : List ℕ) → length store ≡ storeLength → Invariant (opened rules store)
 unfolding numbers held howMany
 opened-invariant rules workable store e =
@@ -77,7 +71,7 @@ opened-invariant rules workable store e =
       taken = λ i h. inl (empty-at (rules .slotCount) i);
       placed = λ n h. absurd (true≢false (sym h));
       once = λ i j hi hj g x. absurd (let z : 0 < 0 = rw (empty-at (rules .slotCount) i) at g in omega arith);
-      counted = none-filled (rules .slotCount) (rules .slotCount);
+      counted = count-none (λ s. not (isEmpty s)) (replicate (rules .slotCount) emptySlot) (rules .slotCount) (λ i h. rw (empty-at (rules .slotCount) i));
     }
 
 -- ---- numbers are never given again

@@ -1,7 +1,7 @@
 -- What a record that is in order says of each slot, and what the calls' searches find in it: the facts that the running calls work
 -- with, by any rules. Assumes nothing.
 use mathlib.Core.Path.{_≡_, refl}
-use mathlib.Core.Bool.{Bool, true, false, cond, _&&_}
+use mathlib.Core.Bool.{Bool, true, false, not, cond, _&&_}
 use mathlib.Core.List.{List}
 use Prim.Native.Nat.{ℕ, zero, suc, _<_}
 use native.Mathlib.Omega.{arith}
@@ -16,10 +16,11 @@ use Rattle.machine.specs.declared.Slot.{Slot}
 use Rattle.machine.specs.declared.Service.{Service}
 use Rattle.machine.specs.declared.Found.the-variants.{At, Nothing}
 use Rattle.machine.specs.Rules.{Rules}
-use Rattle.machine.specs.Slots.{emptySlot, slotAt, isEmpty, hasStepsLeft, hasNumber, nextPlace, firstFrom, everySlot}
+use Rattle.machine.specs.Slots.{emptySlot, slotAt, isEmpty, hasStepsLeft, hasNumber, nextPlace, firstFrom, countOf, everySlot}
 use Rattle.machine.specs.Store.{Workable}
 use Rattle.machine.specs.Calls.{emptyPlace, servedPlace, placeOf}
-use Rattle.machine.proofs.Search.{found, next-lt}
+use Rattle.machine.proofs.Search.{hit, found, distance, next-lt}
+use Rattle.machine.proofs.Counts.{some-empty}
 use Rattle.machine.specs.Order.{FilledSlot, isZero, allZero, filledFine, unshared, slotFine, inOrder}
 
 each : (test : Slot → Bool) (xs : List Slot) (n i : ℕ) → i < n → everySlot test xs n ≡ true → test (getD xs i emptySlot) ≡ true
@@ -94,6 +95,17 @@ module _ (rules : Rules) (workable : Workable rules) (r : Service) where
       let size = rules .slotCount in
       let some = workable .some-slot in
       found test (r .slots) size some size (nextPlace size from) i (next-lt size from some) e
+
+  -- where fewer slots are filled than there are, an empty one is found
+  pub empty-there : countOf (λ s. not (isEmpty s)) (r .slots) (rules .slotCount) < rules .slotCount → (i : ℕ) × (emptyPlace rules r ≡ At i)
+  empty-there few =
+      let size = rules .slotCount in
+      let from = nextPlace size (r .filled) in
+      let start = next-lt size (r .filled) (workable .some-slot) in
+      let s = some-empty (r .slots) size few in
+      let d = distance size from (s .0) start (s .1) in
+      let g = hit isEmpty (r .slots) size (s .0) (s .2) (s .1) size from (d .0) start (d .1) (d .2) (omega arith) in
+      (g .at, g .is)
 
   pub empty-found : (i : ℕ) → emptyPlace rules r ≡ At i → (i < rules .slotCount) × (slotAt r i .number ≡ 0)
   empty-found i e = let w = found-from isEmpty (r .filled) i e in (w .0, eqb-true (slotAt r i .number) 0 (w .1))

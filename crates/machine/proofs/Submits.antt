@@ -4,7 +4,7 @@ use mathlib.Core.Path.{_≡_, refl, sym, _∙_, ap}
 use mathlib.Core.Bool.{Bool, true, false, true≢false}
 use mathlib.Core.Logic.{inl, inr, ⊎-elim}
 use mathlib.Core.List.{List, [], _∷_}
-use Prim.Native.Nat.{ℕ, suc, _+_, _-_, _*_, _≤_}
+use Prim.Native.Nat.{ℕ, suc, _+_, _-_, _*_, _≤_, _<_}
 use native.Mathlib.Nat.{sub-zero}
 use native.Mathlib.Numerals.{add-one}
 use native.Mathlib.Omega.{arith}
@@ -21,17 +21,16 @@ use Rattle.covariance.specs.declared.Shape.{Shape}
 use Rattle.averaging.specs.Steps.{iterate}
 use Rattle.machine.specs.declared.Answer.the-variants.{Job, Refused}
 use Rattle.machine.specs.declared.Found.the-variants.{At}
-use Rattle.machine.specs.Slots.{slotAt, isEmpty, nextPlace}
+use Rattle.machine.specs.Slots.{slotAt}
 use Rattle.machine.specs.Store.{put, bufferAfter}
-use Rattle.machine.specs.Calls.{submit, Result, lastNumber, freeBuffers, submittedChecks, submitChecks, newSlot, submitAt, submitOf}
+use Rattle.machine.specs.Calls.{submit, Result, emptyPlace, lastNumber, freeBuffers, submittedChecks, submitChecks, newSlot, submitAt, submitOf}
 use Rattle.machine.specs.History.{Event, Place, accepts, held, numbers, howMany, jobCount, heldCount}
 use Rattle.machine.specs.Demand.{numberUnless, submitAnswer, countdown}
-use Rattle.machine.proofs.Search.{Hit, hit, distance, next-lt}
 use Rattle.machine.proofs.Parts.{length-put, part-own, part-other}
 use Rattle.machine.proofs.Words.{Untouched, same-held, started-held, started-job, started-ticks, many-same}
 use Rattle.limits.proofs.Checks.{AllHold, all-hold}
-use Rattle.machine.proofs.Counts.{some-empty}
 use Rattle.machine.proofs.Rules.{block, within-block, from-block, in-store, free-test}
+use Rattle.machine.proofs.Orderly.{empty-there, empty-found}
 use Rattle.machine.proofs.Invariant.{Invariant, size, Sits, JobFine, Change, changed, is-usable, fits-le}
 use Rattle.machine.proofs.Served.{Served, sets, refused-call}
 
@@ -48,16 +47,6 @@ module _ (p : Place) (v : Invariant p) (shape : Shape) (k w h : ℕ) (pixels : L
   checks-are : submitChecks (p .rules) (p .service) (p .store) shape k w h pixels ≡ checks
   unfolding submitChecks freeBuffers
   checks-are = rw (is-usable p v, v .counted, free-test (p .rules) (v .workable) (heldCount (p .history)), v .last)
-
-  -- the empty slot that is found where fewer jobs are held than there are slots
-  place : ltb (heldCount (p .history)) (size p) ≡ true → Hit isEmpty (p .service .slots) (size p) (nextPlace (size p) (p .service .filled)) (size p) (size p - 1)
-  place e =
-      let l = ltb-true (heldCount (p .history)) (size p) e in
-      let s = some-empty (p .service .slots) (size p) (omega (arith, v .counted)) in
-      let start = next-lt (size p) (p .service .filled) (v .workable .some-slot) in
-      let d = distance (size p) (nextPlace (size p) (p .service .filled)) (s .0) start (s .1) in
-      let g = hit isEmpty (p .service .slots) (size p) (s .0) (s .2) (s .1) (size p) (nextPlace (size p) (p .service .filled)) (d .0) start (d .1) (d .2) (omega arith) in
-      record { at = g .at; is = g .is; passes = g .passes; below = g .below; from = g .from; ahead = g .ahead; no-further = omega (arith, g .no-further, d .2) }
 
   abbrev number : ℕ
   number = p .service .last + 1
@@ -114,20 +103,23 @@ module _ (p : Place) (v : Invariant p) (shape : Shape) (k w h : ℕ) (pixels : L
           full = full;
         }
 
-    spot : Hit isEmpty (p .service .slots) (size p) (nextPlace (size p) (p .service .filled)) (size p) (size p - 1)
-    spot = place (all .1 .1 .1 .1 .1 .1 .1 .0)
+    -- the empty slot that is found where fewer jobs are held than there are slots
+    spot : (i : ℕ) × (emptyPlace (p .rules) (p .service) ≡ At i)
+    spot =
+        empty-there (p .rules) (v .workable) (p .service)
+        (rw (v .counted) (ltb-true (heldCount (p .history)) (size p) (all .1 .1 .1 .1 .1 .1 .1 .0)))
 
-    result : submitOf (p .rules) (p .service) (p .store) shape k w h pixels ≡ submitAt (p .rules) (p .service) (p .store) shape k w h pixels (At (spot .at))
+    is-empty : (spot .0 < size p) × (slotAt (p .service) (spot .0) .number ≡ 0)
+    is-empty = empty-found (p .rules) (v .workable) (p .service) (spot .0) (spot .1)
+
+    result : submitOf (p .rules) (p .service) (p .store) shape k w h pixels ≡ submitAt (p .rules) (p .service) (p .store) shape k w h pixels (At (spot .0))
     unfolding submitOf
-    result = rw (checks-are, fine, spot .is)
+    result = rw (checks-are, fine, spot .1)
 
-    was-empty : slotAt (p .service) (spot .at) .number ≡ 0
-    was-empty = eqb-true (slotAt (p .service) (spot .at) .number) 0 (spot .passes)
+    room : bufferAfter (p .rules) (spot .0) 0 + length pixels ≤ length (p .store)
+    room = rw (full, v .long) (in-store (p .rules) (v .workable) (spot .0) 0 (w * h) (is-empty .0) small)
 
-    room : bufferAfter (p .rules) (spot .at) 0 + length pixels ≤ length (p .store)
-    room = rw (full, v .long) (in-store (p .rules) (v .workable) (spot .at) 0 (w * h) (spot .below) small)
-
-    sits : Sits (p .rules) (event ∷ p .history) (put (bufferAfter (p .rules) (spot .at) 0) pixels (p .store)) (spot .at) number (newSlot number shape k w h)
+    sits : Sits (p .rules) (event ∷ p .history) (put (bufferAfter (p .rules) (spot .0) 0) pixels (p .store)) (spot .0) number (newSlot number shape k w h)
     unfolding iterate
     sits =
         let j = started-job event (p .history) number starts-it in
@@ -139,29 +131,29 @@ module _ (p : Place) (v : Invariant p) (shape : Shape) (k w h : ℕ) (pixels : L
           is = rw (j, t, sub-zero k);
           few = rw t (omega arith);
           fine = rw j job-fine;
-          image = rw (j, t) (part-own (bufferAfter (p .rules) (spot .at) 0) (w * h) pixels (p .store) full (omega (arith, full, room)));
+          image = rw (j, t) (part-own (bufferAfter (p .rules) (spot .0) 0) (w * h) pixels (p .store) full (omega (arith, full, room)));
         }
 
-    change : Change p (submit shape k w h pixels) (spot .at) number (newSlot number shape k w h)
+    change : Change p (submit shape k w h pixels) (spot .0) number (newSlot number shape k w h)
     change =
         record {
-          at = spot .below;
+          at = is-empty .0;
           slots = rw result;
-          before = inl was-empty;
+          before = inl (is-empty .1);
           only = λ j g ne e. ⊎-elim (λ z. let q = sym (ap (λ s. s .number) z) ∙ e in omega arith) (λ z. let q = sym (ap (λ s. s .number) (z .1 .is)) ∙ e in omega (arith, z .1 .known, number-is)) (v .taken j g);
           others = λ n ne. rw result (is-new n ne);
-          long = rw result (length-put (bufferAfter (p .rules) (spot .at) 0) pixels (p .store) room ∙ v .long);
+          long = rw result (length-put (bufferAfter (p .rules) (spot .0) 0) pixels (p .store) room ∙ v .long);
           apart =
               λ j a n ne x y. rw result
-              (part-other (block (p .rules)) j (spot .at) (bufferAfter (p .rules) (spot .at) 0) a n pixels (p .store) room ne (from-block (p .rules) (v .workable) (spot .at) 0)
-              (within-block (p .rules) (v .workable) (spot .at) 0 (length pixels) (omega (arith, full, small))) x y);
+              (part-other (block (p .rules)) j (spot .0) (bufferAfter (p .rules) (spot .0) 0) a n pixels (p .store) room ne (from-block (p .rules) (v .workable) (spot .0) 0)
+              (within-block (p .rules) (v .workable) (spot .0) 0 (length pixels) (omega (arith, full, small))) x y);
           grows = rw (result, jobs-now) (omega arith);
           new = rw result (inr sits);
-          filled = rw result (spot .below);
+          filled = rw result (is-empty .0);
           served = rw result (v .served);
           last = rw (result, jobs-now) number-is;
           given = rw (result, jobs-now) given-now;
-          counted = rw (result, held-now, was-empty, ne-eqb number 0 (λ x. omega arith)) (omega arith);
+          counted = rw (result, held-now, is-empty .1, ne-eqb number 0 (λ x. omega arith)) (omega arith);
         }
 
     -- no job has this number yet
@@ -179,8 +171,8 @@ module _ (p : Place) (v : Invariant p) (shape : Shape) (k w h : ℕ) (pixels : L
     submit-accepted =
         record {
           answered = ap (λ (r : Result). r .answer) result ∙ ap Job (ap (λ n. n + 1) (v .last));
-          keeps = changed p v (submit shape k w h pixels) (spot .at) number (newSlot number shape k w h) change;
-          effect = sets (spot .at) number (newSlot number shape k w h) change (inl unheld);
+          keeps = changed p v (submit shape k w h pixels) (spot .0) number (newSlot number shape k w h) change;
+          effect = sets (spot .0) number (newSlot number shape k w h) change (inl unheld);
           turn = λ t. ap (λ (r : Result). r .service .served) result;
           unchanged = λ e. absurd (true≢false (sym (ap (λ (r : Result). accepts (r .answer)) result) ∙ e));
         }
