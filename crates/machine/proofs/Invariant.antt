@@ -18,13 +18,14 @@ use Rattle.kernel.specs.Existence.{kernelExists}
 use Rattle.covariance.specs.Shapes.{variancesFine, directionFine, covarianceXX, covarianceXY, covarianceYY}
 use Rattle.machine.specs.declared.Slot.{Slot}
 use Rattle.machine.specs.Rules.{Rules}
-use Rattle.machine.specs.Slots.{emptySlot, slotAt, isEmpty, hasNumber, countOf, everySlot}
+use Rattle.machine.specs.Slots.{emptySlot, slotAt, isEmpty, hasNumber, countOf}
 use Rattle.machine.specs.Store.{storeLength, Workable, part, bufferAfter}
 use Rattle.machine.specs.Order.{allZero, filledFine, slotFine, inOrder, usable}
 use Rattle.machine.specs.Calls.{Call}
 use Rattle.machine.specs.History.{Event, Place, next, eventOf, Submitted, aloneAfter, jobOf, held, ticksOf, stepsLeft, numbers, jobCount, heldCount}
 use Rattle.machine.specs.Demand.{countdown}
 use Rattle.machine.proofs.Search.{one, count-set}
+use Rattle.machine.proofs.Counts.{every-made}
 use Rattle.machine.proofs.Rules.{block, within-block, from-block}
 use Rattle.machine.proofs.Words.{Untouched, same-held, same-job, same-ticks}
 
@@ -90,11 +91,6 @@ unfolding countOf
 count-none test xs zero f = refl
 count-none test xs (suc n) f = rw (f n (omega arith)) (count-none test xs n (λ i h. f i (omega arith)))
 
-every-true : (test : Slot → Bool) (xs : List Slot) (n : ℕ) → ((i : ℕ) → i < n → test (getD xs i emptySlot) ≡ true) → everySlot test xs n ≡ true
-unfolding everySlot
-every-true test xs zero f = refl
-every-true test xs (suc n) f = rw (every-true test xs n (λ i h. f i (omega arith)), f n (omega arith))
-
 -- what is known of the slots of a list in which one is set
 pub at-set : (P : ℕ → Slot → Type 0) (xs : List Slot) (m : ℕ) (v : Slot) → m < length xs → P m v → (i : ℕ)
     → ((i ≡ m → ⊥) → P i (getD xs i emptySlot)) → P i (getD (set xs m v) i emptySlot)
@@ -140,7 +136,7 @@ module _ (p : Place) (v : Invariant p) where
   pub in-order : inOrder (p .rules) (p .service) ≡ true
   unfolding inOrder
   in-order =
-      rw (every-true (slotFine (p .rules) (p .service)) (p .service .slots) (size p) fine-slot, lt-ltb (p .service .filled) (size p) (v .filled), lt-ltb (p .service .served) (size p) (v .served))
+      rw (every-made (λ k. slotFine (p .rules) (p .service) (slotAt (p .service) k)) (size p) fine-slot, lt-ltb (p .service .filled) (size p) (v .filled), lt-ltb (p .service .served) (size p) (v .served))
 
   pub is-usable : usable (p .rules) (p .service) (p .store) ≡ true
   unfolding usable

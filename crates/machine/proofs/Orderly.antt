@@ -2,12 +2,10 @@
 -- with, by any rules. Assumes nothing.
 use mathlib.Core.Path.{_≡_, refl}
 use mathlib.Core.Bool.{Bool, true, false, not, cond, _&&_}
-use mathlib.Core.List.{List}
-use Prim.Native.Nat.{ℕ, zero, suc, _<_}
+use Prim.Native.Nat.{ℕ, _<_}
 use native.Mathlib.Omega.{arith}
 use borrow.Author.Tests.{eqb-true, eqb-false, ne-eqb, ltb-true, leb-true, eq-eqb}
 use lib.Dec.{eqb, ltb, leb}
-use lib.ListN.{getD}
 use Rattle.limits.proofs.Laws.{both-true}
 use Rattle.limits.specs.Limits.{stepsInRange, sidesInRange, fitsBuffer}
 use Rattle.kernel.specs.Molecule.{unitsOf}
@@ -16,21 +14,12 @@ use Rattle.machine.specs.declared.Slot.{Slot}
 use Rattle.machine.specs.declared.Service.{Service}
 use Rattle.machine.specs.declared.Found.the-variants.{At, Nothing}
 use Rattle.machine.specs.Rules.{Rules}
-use Rattle.machine.specs.Slots.{emptySlot, slotAt, isEmpty, hasStepsLeft, hasNumber, nextPlace, firstFrom, countOf, everySlot}
+use Rattle.machine.specs.Slots.{slotAt, isEmpty, hasStepsLeft, hasNumber, nextPlace, firstFrom, countOf, everySlot}
 use Rattle.machine.specs.Store.{Workable}
 use Rattle.machine.specs.Calls.{emptyPlace, servedPlace, placeOf}
 use Rattle.machine.proofs.Search.{hit, found, distance, next-lt}
-use Rattle.machine.proofs.Counts.{some-empty}
+use Rattle.machine.proofs.Counts.{some-empty, every-each}
 use Rattle.machine.specs.Order.{FilledSlot, isZero, allZero, filledFine, unshared, slotFine, inOrder}
-
-each : (test : Slot → Bool) (xs : List Slot) (n i : ℕ) → i < n → everySlot test xs n ≡ true → test (getD xs i emptySlot) ≡ true
-unfolding everySlot
-each test xs zero i h e = absurd (omega arith)
-each test xs (suc n) i h e = go (eqb i n) refl (each test xs n i)
-  where
-    go : (t : Bool) → eqb i n ≡ t → (i < n → everySlot test xs n ≡ true → test (getD xs i emptySlot) ≡ true) → test (getD xs i emptySlot) ≡ true
-    go true q f = rw (eqb-true i n q) (both-true (everySlot test xs n) (test (getD xs n emptySlot)) e .1)
-    go false q f = let ne = eqb-false i n q in f (omega arith) (both-true (everySlot test xs n) (test (getD xs n emptySlot)) e .0)
 
 module _ (rules : Rules) (r : Service) (ordered : inOrder rules r ≡ true) where
   parts : (everySlot (slotFine rules r) (r .slots) (rules .slotCount) ≡ true) × ((ltb (r .filled) (rules .slotCount) && ltb (r .served) (rules .slotCount)) ≡ true)
@@ -44,7 +33,7 @@ module _ (rules : Rules) (r : Service) (ordered : inOrder rules r ≡ true) wher
   served-lt = ltb-true (r .served) (rules .slotCount) (both-true (ltb (r .filled) (rules .slotCount)) (ltb (r .served) (rules .slotCount)) (parts .1) .1)
 
   fine : (i : ℕ) → i < rules .slotCount → slotFine rules r (slotAt r i) ≡ true
-  fine i h = each (slotFine rules r) (r .slots) (rules .slotCount) i h (parts .0)
+  fine i h = every-each (λ k. slotFine rules r (slotAt r k)) (rules .slotCount) i h (parts .0)
 
   pub filled-slot : (i : ℕ) → i < rules .slotCount → (slotAt r i .number ≡ 0 → ⊥) → FilledSlot (r .last) (slotAt r i)
   unfolding slotFine filledFine

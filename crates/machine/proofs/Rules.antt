@@ -28,10 +28,10 @@ abbrev pub block : Rules → ℕ
 block rules = rules .buffersPerSlot * bufferPixels
 
 module _ (rules : Rules) (workable : Workable rules) where
-  abbrev b : ℕ
-  b = rules .buffersPerSlot
+  abbrev perSlot : ℕ
+  perSlot = rules .buffersPerSlot
 
-  block-at : (j : ℕ) → block rules * j ≡ bufferPixels * (b * j)
+  block-at : (j : ℕ) → block rules * j ≡ bufferPixels * (perSlot * j)
   block-at j = omega arith
 
   -- a buffer lies within its slot's block
@@ -46,29 +46,29 @@ module _ (rules : Rules) (workable : Workable rules) where
   -- and in the store
   pub in-store : (j done n : ℕ) → j < rules .slotCount → n ≤ bufferPixels → bufferAfter rules j done + n ≤ storeLength
   in-store j done n l h =
-      let all : b * (j + 1) ≤ b * rules .slotCount = mul-le-mul-left b (omega arith) in
-      let e = mul-comm b (rules .slotCount) in
+      let all : perSlot * (j + 1) ≤ perSlot * rules .slotCount = mul-le-mul-left perSlot (omega arith) in
+      let e = mul-comm perSlot (rules .slotCount) in
       let s = workable .in-store in
       le-trans (within-block j done n h) (rw (block-at (j + 1)) (omega arith))
 
   -- a slot's buffers are free exactly where a slot is
   module _ (held : ℕ) where
-    room : held < rules .slotCount → b ≤ bufferCount rules - b * held
+    room : held < rules .slotCount → perSlot ≤ bufferCount rules - perSlot * held
     room l =
-        let m : b * (held + 1) ≤ b * rules .slotCount = mul-le-mul-left b (omega arith) in
-        let e = mul-comm b (rules .slotCount) in
+        let m : perSlot * (held + 1) ≤ perSlot * rules .slotCount = mul-le-mul-left perSlot (omega arith) in
+        let e = mul-comm perSlot (rules .slotCount) in
         omega arith
 
-    full : rules .slotCount ≤ held → bufferCount rules - b * held < b
+    full : rules .slotCount ≤ held → bufferCount rules - perSlot * held < perSlot
     full l =
-        let m : b * rules .slotCount ≤ b * held = mul-le-mul-left b l in
-        let e = mul-comm b (rules .slotCount) in
+        let m : perSlot * rules .slotCount ≤ perSlot * held = mul-le-mul-left perSlot l in
+        let e = mul-comm perSlot (rules .slotCount) in
         let s = workable .some-buffer in
         omega arith
 
-    pub free-test : leb b (bufferCount rules - b * held) ≡ ltb held (rules .slotCount)
+    pub free-test : leb perSlot (bufferCount rules - perSlot * held) ≡ ltb held (rules .slotCount)
     free-test = go (ltb held (rules .slotCount)) refl
       where
-        go : (t : Bool) → ltb held (rules .slotCount) ≡ t → leb b (bufferCount rules - b * held) ≡ t
-        go true e = le-leb b (bufferCount rules - b * held) (room (ltb-true held (rules .slotCount) e))
-        go false e = lt-leb b (bufferCount rules - b * held) (full (ltb-false held (rules .slotCount) e))
+        go : (t : Bool) → ltb held (rules .slotCount) ≡ t → leb perSlot (bufferCount rules - perSlot * held) ≡ t
+        go true e = le-leb perSlot (bufferCount rules - perSlot * held) (room (ltb-true held (rules .slotCount) e))
+        go false e = lt-leb perSlot (bufferCount rules - perSlot * held) (full (ltb-false held (rules .slotCount) e))

@@ -20,7 +20,7 @@ use Rattle.averaging.specs.Steps.{iterate, stepOf, weightedAt}
 use Rattle.machine.specs.declared.Slot.{Slot}
 use Rattle.machine.specs.declared.Service.{Service}
 use Rattle.machine.specs.Rules.{baseRules}
-use Rattle.machine.specs.Slots.{firstFrom, countOf, everySlot}
+use Rattle.machine.specs.Slots.{firstFrom, countOf, everyPlace}
 use Rattle.machine.specs.Order.{allZero, filledFine, slotFine, inOrder, usable}
 use Rattle.machine.specs.Calls.{submit, tick, collect, withdraw, freeBuffers, submitChecks, submitOf, tickOf, collectChecks, collectOf, withdrawOf, freeCountOf}
 use Rattle.machine.specs.History.{opened, after, since, jobOf, held, ticksOf, numbers, howMany, withdrawnIn, ticksIn}
@@ -462,5 +462,5 @@ table =
     ++ records
 
 pub worked : map (λ w. computed (w .from) (w .lines)) table ≡ map (λ w. w .lines) table
-unfolding computed firstFrom countOf everySlot allZero filledFine slotFine inOrder usable freeBuffers submitChecks submitOf tickOf collectChecks collectOf withdrawOf freeCountOf after since jobOf held ticksOf numbers howMany withdrawnIn ticksIn allAccepted kernelWith kernelExists pixelAt entries rows iterate stepOf weightedAt inRange nearestUnits varianceInRange cosineInRange squareInRange directionInRange variancesFine directionFine covarianceXX covarianceXY covarianceYY add sub mul le
+unfolding computed firstFrom countOf everyPlace allZero filledFine slotFine inOrder usable freeBuffers submitChecks submitOf tickOf collectChecks collectOf withdrawOf freeCountOf after since jobOf held ticksOf numbers howMany withdrawnIn ticksIn allAccepted kernelWith kernelExists pixelAt entries rows iterate stepOf weightedAt inRange nearestUnits varianceInRange cosineInRange squareInRange directionInRange variancesFine directionFine covarianceXX covarianceXY covarianceYY add sub mul le
 worked = refl

@@ -57,7 +57,10 @@ unfoldable pub countOf : (Slot → Bool) → List Slot → ℕ → ℕ
 countOf test slots zero = 0
 countOf test slots (suc n) = cond (test (getD slots n emptySlot)) (countOf test slots n + 1) (countOf test slots n)
 
--- whether each of the first n slots passes it
-unfoldable pub everySlot : (Slot → Bool) → List Slot → ℕ → Bool
-everySlot test slots zero = true
-everySlot test slots (suc n) = everySlot test slots n && test (getD slots n emptySlot)
+-- whether each of the first n places passes a test, and each of the first n slots
+unfoldable pub everyPlace : (ℕ → Bool) → ℕ → Bool
+everyPlace test zero = true
+everyPlace test (suc n) = everyPlace test n && test n
+
+abbrev pub everySlot : (Slot → Bool) → List Slot → ℕ → Bool
+everySlot test slots n = everyPlace (λ i. test (getD slots i emptySlot)) n

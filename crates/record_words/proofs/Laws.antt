@@ -8,7 +8,6 @@ use native.Mathlib.Nat.{mul-add-mod-self-left, mod-eq-of-lt}
 use native.Mathlib.Numerals.{add-one}
 use native.Mathlib.Omega.{arith}
 use borrow.Author.Tests.{eqb-true, ltb-true, le-ltb, ne-eqb}
-use borrow.Author.Count.{below-more}
 use lib.Dec.{eqb, ltb}
 use lib.ListN.{length, getD}
 use lib.IntN.{ℤ, pos, negsuc, natAbs, _-ℤ_}
@@ -18,26 +17,12 @@ use mir.Val.{Fits, SFits, toZ, ofZ}
 use mir.ValLaws.{toZ-pos, toZ-ofZ}
 use Rattle.limits.proofs.Laws.{both-true}
 use Rattle.machine.specs.declared.Service.{Service}
+use Rattle.machine.proofs.Counts.{every-more, every-each}
 use Rattle.machine.proofs.Parts.{length-put}
 use Rattle.machine.specs.Slots.{slotCount, slotAt}
 use Rattle.record_words.specs.Words.{wordCount, slotWords, wordPlace, wordAt, wordFits, wordsFit, fieldsFit, slotFits, wordsOfSlot, withSlot, withSlots}
 
 -- ---- words within their fields
-pub fit-none : (words : List ℕ) → wordsFit words 0 ≡ true
-unfolding wordsFit
-fit-none words = refl
-
-pub fit-more : (words : List ℕ) (n : ℕ) → wordsFit words (n + 1) ≡ (wordsFit words n && wordFits n (getD words n 0))
-unfolding wordsFit
-fit-more words n = rw (add-one n)
-
-fit-at : (words : List ℕ) (n : ℕ) → wordsFit words n ≡ true → (k : ℕ) → k < n → wordFits k (getD words k 0) ≡ true
-unfolding wordsFit
-fit-at words zero e k h = absurd (omega arith)
-fit-at words (suc n) e k h =
-    let w = both-true (wordsFit words n) (wordFits n (getD words n 0)) e in
-    below-more (λ (k : ℕ). wordFits k (getD words k 0) ≡ true) n (fit-at words n (w .0)) (w .1) k (omega arith)
-
 -- a test after others, one by one or joined first
 joined : (f a b c d e g h : Bool) → ((((((((f && true) && a) && b) && c) && d) && e) && g) && h) ≡ (f && (a && (b && (c && (d && (e && (g && h)))))))
 joined false a b c d e g h = refl
@@ -57,7 +42,7 @@ module _ (words : List ℕ) where
   fit-next : (n j : ℕ) → wordsFit words (slotWords * n + (j + 1)) ≡ (wordsFit words (slotWords * n + j) && cond (eqb (j % slotWords) 0) true (ltb (wordAt words n j) (2 ^ 32)))
   fit-next n j =
       let e : slotWords * n + (j + 1) ≡ slotWords * n + j + 1 = omega arith in
-      rw e (fit-more words (slotWords * n + j) ∙ rw (mul-add-mod-self-left slotWords n j))
+      rw e (every-more (λ i. wordFits i (getD words i 0)) (slotWords * n + j) ∙ rw (mul-add-mod-self-left slotWords n j))
 
   pub fit-slot : (n : ℕ) → wordsFit words (slotWords * (n + 1)) ≡ (wordsFit words (slotWords * n) && slotFits words n)
   fit-slot n =
@@ -79,7 +64,7 @@ module _ (words : List ℕ) (fit : fieldsFit words ≡ true) where
   pub fit-narrow : (place field : ℕ) → 1 ≤ field → field < slotWords → wordPlace place field < wordCount → wordAt words place field < 2 ^ 32
   unfolding fieldsFit
   fit-narrow place field l h p =
-      let w = fit-at words wordCount (both-true (eqb (length words) wordCount) (wordsFit words wordCount) fit .1) (wordPlace place field) p in
+      let w = every-each (λ i. wordFits i (getD words i 0)) wordCount (wordPlace place field) p (both-true (eqb (length words) wordCount) (wordsFit words wordCount) fit .1) in
       let m : wordPlace place field % slotWords ≡ field = mul-add-mod-self-left slotWords place field ∙ mod-eq-of-lt h in
       let n : eqb (wordPlace place field % slotWords) 0 ≡ false =
       ne-eqb (wordPlace place field % slotWords) 0 (λ (e : wordPlace place field % slotWords ≡ 0). let z : field ≡ 0 = sym m ∙ e in omega arith) in

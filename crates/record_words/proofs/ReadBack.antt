@@ -14,12 +14,13 @@ use mir.Syntax.{w32}
 use mir.Val.{SFits, ofZ}
 use mir.ValLaws.{ofZ-fits}
 use Rattle.averaging.proofs.Images.{same-entries, own-entries}
+use Rattle.machine.proofs.Counts.{every-made}
 use Rattle.machine.proofs.Parts.{part-own, part-other, length-put}
 use Rattle.machine.specs.declared.Slot.{Slot}
 use Rattle.machine.specs.declared.Service.{Service}
 use Rattle.machine.specs.Slots.{slotCount, slotAt, emptySlot}
 use Rattle.machine.specs.Store.{part, put}
-use Rattle.record_words.specs.Words.{wordCount, slotWords, wordAt, wordFits, wordsFit, fieldsFit, slotOf, slotsOf, serviceOf, wordsOfSlot, withSlots, withService}
+use Rattle.record_words.specs.Words.{wordCount, slotWords, wordAt, wordFits, fieldsFit, slotOf, slotsOf, serviceOf, wordsOfSlot, withSlots, withService}
 use Rattle.record_words.proofs.Laws.{passes, slots-written-length}
 
 -- an entry of a part
@@ -129,11 +130,6 @@ narrow k word h = go (eqb (k % slotWords) 0)
 wide-word : (i word : ℕ) → wordFits (slotWords * i + 0) word ≡ true
 wide-word i word = rw (mul-add-mod-self-left slotWords i 0)
 
-all-fit : (words : List ℕ) (n : ℕ) → ((k : ℕ) → k < n → wordFits k (getD words k 0) ≡ true) → wordsFit words n ≡ true
-unfolding wordsFit
-all-fit words zero each = refl
-all-fit words (suc n) each = rw (all-fit words n (λ k h. each k (omega arith)), each n (omega arith))
-
 module _ (i : ℕ) (s : Slot) (f : SlotFits s) where
   field-fits : (field : ℕ) → field < slotWords → wordFits (slotWords * i + field) (getD (wordsOfSlot s) field 0) ≡ true
   field-fits zero h = wide-word i (s .number)
@@ -176,4 +172,4 @@ module _ (r : Service) (words : List ℕ) (long : length words ≡ wordCount) (f
   -- WHAT IS WRITTEN HOLDS A RECORD
   pub written-fits : fieldsFit (withService r words) ≡ true
   unfolding fieldsFit
-  written-fits = rw (eq-eqb (length (withService r words)) wordCount (long-after r words long), all-fit (withService r words) wordCount each)
+  written-fits = rw (eq-eqb (length (withService r words)) wordCount (long-after r words long), every-made (λ i. wordFits i (getD (withService r words) i 0)) wordCount each)

@@ -11,7 +11,7 @@ use mir.Val.{toZ, ofZ}
 use Rattle.image.specs.Image.{entries}
 use Rattle.machine.specs.declared.Slot.{Slot}
 use Rattle.machine.specs.declared.Service.{Service}
-use Rattle.machine.specs.Slots.{slotCount, slotAt}
+use Rattle.machine.specs.Slots.{slotCount, slotAt, everyPlace}
 use Rattle.machine.specs.Store.{put}
 
 -- the words of one slot
@@ -27,9 +27,8 @@ abbrev pub wordFits : ℕ → ℕ → Bool
 wordFits i word = cond (eqb (i % slotWords) 0) true (ltb word (2 ^ 32))
 
 -- whether each of the first n is
-unfoldable pub wordsFit : List ℕ → ℕ → Bool
-wordsFit words zero = true
-wordsFit words (suc n) = wordsFit words n && wordFits n (getD words n 0)
+abbrev pub wordsFit : List ℕ → ℕ → Bool
+wordsFit words n = everyPlace (λ i. wordFits i (getD words i 0)) n
 
 -- words that are a record, in order or not
 unfoldable pub fieldsFit : List ℕ → Bool

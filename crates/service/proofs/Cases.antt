@@ -8,7 +8,7 @@ use lib.IntN.{pos}
 use Rattle.kernel.specs.Existence.{kernelExists}
 use Rattle.machine.specs.declared.Slot.{Slot}
 use Rattle.machine.specs.declared.Service.{Service}
-use Rattle.machine.specs.Slots.{firstFrom, countOf, everySlot}
+use Rattle.machine.specs.Slots.{firstFrom, countOf, everyPlace}
 use Rattle.machine.specs.Order.{allZero, filledFine, slotFine, inOrder, usable}
 use Rattle.machine.specs.Answers.{answerNumber, answerValues}
 use Rattle.machine.proofs.Lines.{seat, none, keeps}
@@ -74,5 +74,5 @@ computed r =
     row (r .served) (r .leftOf5) (r .leftOf9) (r .pixels) (answerNumber (t .answer)) (answerValues (t .answer)) (t .place) (t .left)
 
 pub turns : map computed table ≡ table
-unfolding turnOf usable inOrder slotFine filledFine allZero kernelExists firstFrom countOf everySlot
+unfolding turnOf usable inOrder slotFine filledFine allZero kernelExists firstFrom countOf everyPlace
 turns = refl

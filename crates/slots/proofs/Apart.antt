@@ -4,64 +4,18 @@ use mathlib.Core.Path.{_≡_, refl, sym, _∙_}
 use mathlib.Core.Bool.{Bool, true, false, cond, _&&_}
 use mathlib.Core.List.{List}
 use Prim.Native.Nat.{ℕ, zero, suc, _+_, _<_, _≤_}
-use native.Mathlib.Numerals.{add-one}
 use native.Mathlib.Omega.{arith}
 use borrow.Author.Tests.{eq-eqb, ne-eqb, eqb-true, eqb-false}
 use lib.Dec.{eqb}
 use lib.ListN.{getD}
 use Rattle.limits.proofs.Laws.{both-true}
 use Rattle.averaging.proofs.Images.{entry}
-use Rattle.machine.specs.declared.Slot.{Slot}
 use Rattle.machine.specs.declared.Service.{Service}
 use Rattle.machine.specs.Rules.{Rules}
-use Rattle.machine.specs.Slots.{emptySlot, slotAt, isEmpty, hasNumber, countOf, everySlot}
+use Rattle.machine.specs.Slots.{slotAt, isEmpty, hasNumber, countOf, everyPlace, everySlot}
 use Rattle.machine.specs.Order.{allZero, filledFine, unshared, slotFine}
+use Rattle.machine.proofs.Counts.{every-same}
 use Rattle.slots.specs.Numbers.{numberAt, numbersOf, occurrencesOf, slotFineAfter}
-
--- ---- a test of the first n places
-unfoldable pub allBelow : (ℕ → Bool) → ℕ → Bool
-allBelow test zero = true
-allBelow test (suc n) = allBelow test n && test n
-
-pub all-more : (test : ℕ → Bool) (n : ℕ) → allBelow test (n + 1) ≡ (allBelow test n && test n)
-unfolding allBelow
-all-more test n = rw (add-one n)
-
-pub all-none : (test : ℕ → Bool) → allBelow test 0 ≡ true
-unfolding allBelow
-all-none test = refl
-
-all-each : (test : ℕ → Bool) (n i : ℕ) → i < n → allBelow test n ≡ true → test i ≡ true
-unfolding allBelow
-all-each test zero i h e = absurd (omega arith)
-all-each test (suc n) i h e = go (eqb i n) refl (all-each test n i)
-  where
-    go : (t : Bool) → eqb i n ≡ t → (i < n → allBelow test n ≡ true → test i ≡ true) → test i ≡ true
-    go true q f = rw (eqb-true i n q) (both-true (allBelow test n) (test n) e .1)
-    go false q f = let ne = eqb-false i n q in f (omega arith) (both-true (allBelow test n) (test n) e .0)
-
-all-made : (test : ℕ → Bool) (n : ℕ) → ((i : ℕ) → i < n → test i ≡ true) → allBelow test n ≡ true
-unfolding allBelow
-all-made test zero f = refl
-all-made test (suc n) f = rw (all-made test n (λ i h. f i (omega arith)), f n (omega arith))
-
--- two tests, of which each passes all places where the other does
-same-all : (a b : ℕ → Bool) (n : ℕ)
-    → (((i : ℕ) → i < n → a i ≡ true) → (i : ℕ) → i < n → b i ≡ true)
-    → (((i : ℕ) → i < n → b i ≡ true) → (i : ℕ) → i < n → a i ≡ true)
-    → allBelow a n ≡ allBelow b n
-same-all a b n f g = go (allBelow a n) (allBelow b n) (λ e. all-made b n (f (λ i h. all-each a n i h e))) (λ e. all-made a n (g (λ i h. all-each b n i h e)))
-  where
-    go : (p q : Bool) → (p ≡ true → q ≡ true) → (q ≡ true → p ≡ true) → p ≡ q
-    go true q there back = sym (there refl)
-    go false true there back = back refl
-    go false false there back = refl
-
--- the same of the first n slots
-every-below : (test : Slot → Bool) (slots : List Slot) (n : ℕ) → everySlot test slots n ≡ allBelow (λ i. test (getD slots i emptySlot)) n
-unfolding allBelow everySlot
-every-below test slots zero = refl
-every-below test slots (suc n) = rw (every-below test slots n)
 
 -- ---- the count of a number
 module _ (numbers : List ℕ) (number : ℕ) where
@@ -174,7 +128,5 @@ module _ (rules : Rules) (r : Service) where
         eq-eqb (countOf (hasNumber n) (r .slots) (rules .slotCount)) 1 (omega arith))
         (after i h)
 
-  pub after-fine : allBelow (λ i. slotFineAfter (r .last) numbers i (slotAt r i)) (rules .slotCount) ≡ everySlot (slotFine rules r) (r .slots) (rules .slotCount)
-  after-fine =
-      same-all fineAfter (λ i. slotFine rules r (slotAt r i)) (rules .slotCount) after-once (λ f i h. once-after i h (f i h))
-      ∙ sym (every-below (slotFine rules r) (r .slots) (rules .slotCount))
+  pub after-fine : everyPlace fineAfter (rules .slotCount) ≡ everySlot (slotFine rules r) (r .slots) (rules .slotCount)
+  after-fine = every-same fineAfter (λ i. slotFine rules r (slotAt r i)) (rules .slotCount) after-once (λ f i h. once-after i h (f i h))

@@ -6,8 +6,9 @@ use native.Mathlib.Omega.{arith}
 use Prim.Native.Nat.{_*_, _≤_, _-_}
 use borrow.Author.Tests.{eq-eqb, ne-eqb}
 use Rattle.machine.specs.Slots.{slotCount}
+use Rattle.machine.proofs.Counts.{every-none}
 use Rattle.record_words.specs.Words.{slotWords, wordsFit, fieldsFit}
-use Rattle.record_words.proofs.Laws.{fit-none, fit-slot, fit-all}
+use Rattle.record_words.proofs.Laws.{fit-slot, fit-all}
 use Rattle.record_words.proofs.fields_fit.Statement.{statement}
 use Rattle.record_words.proofs.fields_fit.Tie as tie
 
@@ -22,7 +23,7 @@ unfolding fieldsFit
 returns c = rw (ne-eqb _ _ (c .if1 .taken))
 
 loop-holds : tie.Need-loop-holds Inv-loop μ-loop
-loop-holds c = (omega arith, sym (fit-none _))
+loop-holds c = (omega arith, sym (every-none _))
 
 slot-fits-requires : tie.Need-slot-fits-requires Inv-loop μ-loop
 slot-fits-requires c κs = search needs

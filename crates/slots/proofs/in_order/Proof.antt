@@ -5,15 +5,16 @@ use native.Mathlib.Omega.{arith}
 use mathlib.Core.Path.{_≡_, sym}
 use Prim.Native.Nat.{_≤_, _-_}
 use Rattle.machine.specs.Rules.{currentRules}
-use Rattle.machine.specs.Slots.{slotCount, slotAt}
+use Rattle.machine.specs.Slots.{slotCount, slotAt, everyPlace}
 use Rattle.machine.specs.Order.{inOrder}
+use Rattle.machine.proofs.Counts.{every-none, every-more}
 use Rattle.slots.specs.Numbers.{slotFineAfter}
-use Rattle.slots.proofs.Apart.{allBelow, all-none, all-more, after-fine}
+use Rattle.slots.proofs.Apart.{after-fine}
 use Rattle.slots.proofs.in_order.Statement.{statement}
 use Rattle.slots.proofs.in_order.Tie as tie
 
 abbrev Inv-loop : tie.InvT-loop
-Inv-loop service numbers fine₀ i₀ fine i = (i ≤ slotCount) × (fine ≡ allBelow (λ k. slotFineAfter (service .last) numbers k (slotAt service k)) i)
+Inv-loop service numbers fine₀ i₀ fine i = (i ≤ slotCount) × (fine ≡ everyPlace (λ k. slotFineAfter (service .last) numbers k (slotAt service k)) i)
 
 abbrev μ-loop : tie.MeasureT-loop
 μ-loop service numbers fine₀ i₀ fine i = slotCount - i
@@ -22,7 +23,7 @@ numbers-of-requires : tie.Need-numbers-of-requires Inv-loop μ-loop
 numbers-of-requires c κs = search needs
 
 loop-holds : tie.Need-loop-holds Inv-loop μ-loop
-loop-holds c = (omega arith, sym (all-none _))
+loop-holds c = (omega arith, sym (every-none _))
 
 mul-slot : tie.Need-mul-slot Inv-loop μ-loop
 mul-slot c = search needs
@@ -45,7 +46,7 @@ loop-less c = search needs
 loop-again : tie.Need-loop-again Inv-loop μ-loop
 loop-again c =
     let l = c .before .before .before .before in
-    (omega arith, rw (all-more, c .both .ensures, c .before .slot-fine .ensures, l .loop .inv .1))
+    (omega arith, rw (every-more, c .both .ensures, c .before .slot-fine .ensures, l .loop .inv .1))
 
 both-requires-2 : tie.Need-both-requires-2 Inv-loop μ-loop
 both-requires-2 c κs = search needs
