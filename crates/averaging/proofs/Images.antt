@@ -3,14 +3,15 @@
 use mathlib.Core.Path.{_≡_, refl, sym, ap, ap₂, subst, _∙_}
 use mathlib.Core.Logic.{_⊎_, inl, inr}
 use mathlib.Core.List.{List, [], _∷_, _++_}
-use Prim.Native.Nat.{ℕ, zero, suc, _+_, _*_, _/_, _%_, _≤_, _<_}
+use Prim.Native.Nat.{ℕ, zero, suc, _+_, _-_, _*_, _/_, _%_, _≤_, _<_, min}
 use native.Mathlib.Nat.{mul-one, mul-comm, mul-le-mul-right, le-of-suc-le-suc, not-suc-le-zero, eq-or-lt-of-le}
 use native.Mathlib.Nat.{div-add-mod', div-lt-iff-lt-mul, mod-lt}
 use native.Mathlib.Numerals.{add-one}
 use native.Mathlib.Omega.{arith}
 use lib.ListN.{length, getD, set, take, length-append, length-set, List·getD-append}
 use lib.Seq.{getD-append-add, ext-getD, take-suc-set, take-all}
-use lib.IntN.{ℤ, pos, negsuc}
+use lib.IntN.{ℤ, pos, negsuc, _+ℤ_}
+use borrow.Author.Tests.{le-ltb}
 use Rattle.image.specs.Image.{nearestPlace, entries, rows, imageOf}
 
 -- ---- places
@@ -30,6 +31,15 @@ every-place (suc w) h P f i l =
 pub nearest-lt : (n : ℕ) (z : ℤ) → 1 ≤ n → nearestPlace n z < n
 nearest-lt n (pos i) l = omega arith
 nearest-lt n (negsuc i) l = l
+
+-- one place back from i + 1 is i
+pub one-back : (i : ℕ) → pos (suc i) +ℤ negsuc 0 ≡ pos i
+one-back i = rw (le-ltb (suc i) 1 (omega arith)) (ap pos (omega arith))
+
+-- so the nearest place to the one before i. Those to i and to the one after it compute.
+pub place-before : (n i : ℕ) → nearestPlace n (pos i +ℤ negsuc 0) ≡ min (i - 1) (n - 1)
+place-before n zero = omega arith
+place-before n (suc i) = rw (one-back i) (omega arith)
 
 -- ---- entries
 module _ {A : Type 0} where

@@ -7,7 +7,7 @@ use mathlib.Core.Logic.{_⊎_, inl, inr, _↔_}
 use mathlib.Core.List.{List, [], _∷_, foldr}
 use Prim.Native.Nat.{ℕ, zero, suc, _+_, _≤_, _<_}
 use native.Mathlib.Omega.{arith}
-use borrow.Author.Tests.{eqb-true, eqb-false, leb-true, leb-false, ltb-true, not-true, lt-ltb, le-ltb}
+use borrow.Author.Tests.{eqb-true, eqb-false, leb-true, leb-false, ltb-true, not-true, lt-ltb}
 use lib.Dec.{eqb, leb}
 use lib.IntN.{ℤ, pos, negsuc, natAbs, _+ℤ_}
 use Rattle.limits.proofs.Laws.{both-true}
@@ -16,7 +16,7 @@ use Rattle.image.specs.Image.{nearestPlace, pixelAt}
 use Rattle.averaging.specs.Distances.{Differ}
 use Rattle.averaging.specs.Neighbours.{around, isPlace, isInside, neighbours, eachNeighbour}
 use Rattle.averaging.proofs.Averages.{Each}
-use Rattle.averaging.proofs.Images.{nearest-lt}
+use Rattle.averaging.proofs.Images.{nearest-lt, one-back}
 
 -- ---- lists of offsets
 -- a test of each offset of a list that leads inside, and the same test of each offset there
@@ -63,10 +63,6 @@ near-axes d e =
     (leb-true (natAbs (d .dx)) 1 (both .0), leb-true (natAbs (d .dy)) 1 (both .1))
 
 -- ---- one axis
--- one place back from x + 1 is x
-one-back : (x : ℕ) → pos (suc x) +ℤ minusOne ≡ pos x
-one-back x = rw (le-ltb (suc x) 1 (omega arith)) (ap pos (omega arith))
-
 -- a place at most one from x, by the side on which it lies
 side : (u x : ℕ) → Differ 1 u x → (pos x +ℤ minusOne ≡ pos u) ⊎ ((u ≡ x) ⊎ (pos x +ℤ pos 1 ≡ pos u))
 side u zero near = go (eqb u 0) refl

@@ -2,14 +2,14 @@
 -- place to each side, with the nearest place outside, does to such a sum. Assumes nothing.
 use mathlib.Core.Path.{_≡_, refl, sym, ap, ap₂, _∙_}
 use mathlib.Core.List.{List, [], _∷_, _++_}
-use Prim.Native.Nat.{ℕ, zero, suc, _+_, _≤_, _<_}
+use Prim.Native.Nat.{ℕ, zero, suc, _+_, _<_}
 use native.Mathlib.Omega.{arith}
-use borrow.Author.Tests.{le-ltb}
 use lib.IntN.{ℤ, pos, negsuc, _+ℤ_}
 use Rattle.kernel.specs.Offsets.{Offset, weighted}
 use Rattle.image.specs.Image.{nearestPlace, entries, rows, imageOf}
 use Rattle.averaging.specs.Distances.{brightness}
 use Rattle.averaging.proofs.Averages.{average-sum, average-constant}
+use Rattle.averaging.proofs.Images.{place-before}
 
 -- f 0 + f 1 + .. + f (n − 1)
 abbrev pub sumTo : ℕ → (ℕ → ℕ) → ℕ
@@ -68,13 +68,10 @@ shifted n f d = sumTo n (λ i. f (nearestPlace n (pos i +ℤ d)))
 pub shifted-none : (n : ℕ) (f : ℕ → ℕ) → shifted n f (pos 0) ≡ sumTo n f
 shifted-none n f = sum-same n (λ i. f (nearestPlace n (pos i +ℤ pos 0))) f (λ i l. ap f (omega arith))
 
-one-back : (n i : ℕ) → i ≤ n → nearestPlace (suc n) (pos (suc i) +ℤ negsuc 0) ≡ i
-one-back n i l = rw (le-ltb (suc i) 1 (omega arith)) (omega arith)
-
 shifted-back : (n : ℕ) (f : ℕ → ℕ) → shifted (suc n) f (negsuc 0) ≡ f 0 + sumTo n f
 shifted-back n f =
     sum-first n (λ i. f (nearestPlace (suc n) (pos i +ℤ negsuc 0)))
-    ∙ ap (λ s. f 0 + s) (sum-same n (λ i. f (nearestPlace (suc n) (pos (suc i) +ℤ negsuc 0))) f (λ i l. ap f (one-back n i (omega arith))))
+    ∙ ap (λ s. f 0 + s) (sum-same n (λ i. f (nearestPlace (suc n) (pos (suc i) +ℤ negsuc 0))) f (λ i l. ap f (place-before (suc n) (suc i) ∙ omega arith)))
 
 shifted-on : (n : ℕ) (f : ℕ → ℕ) → shifted (suc n) f (pos 1) ≡ sumTo n (λ i. f (suc i)) + f n
 shifted-on n f =

@@ -9,6 +9,8 @@ use lib.IntN.{ℤ, pos, negsuc}
 use lib.Ieee.{Float, nan, inf, fin, binary64, ofBits, add, sub, mul, le, eq}
 use lib.Ieee.Scale.{finite}
 use Rattle.limits.specs.Errors.{firstRefusal, outcomeNumber}
+use Rattle.limits.specs.declared.ErrorCode.{ErrorCode}
+use Rattle.limits.specs.declared.ErrorCode.the-variants.{VarianceOutOfRange, NotADirection}
 use Rattle.kernel.specs.Existence.{kernelExists}
 use Rattle.covariance.specs.declared.Direction.{Direction}
 use Rattle.covariance.specs.declared.Shape.{Shape}
@@ -19,7 +21,7 @@ use Rattle.covariance.specs.Units.{nearestUnits, WithinHalfUnit}
 use Rattle.covariance.specs.Cuts.{wholeBelow, wholeAbove}
 use Rattle.covariance.specs.Axes.{isZero, isUnit, alongX, alongY}
 use Rattle.covariance.specs.Shapes.{varianceInRange, cosineInRange, squareInRange, directionInRange, variancesFine, directionFine, covarianceXX, covarianceXY, covarianceYY}
-use Rattle.covariance.specs.Answer.{covarianceAnswer, shapeKernelChecks}
+use Rattle.covariance.specs.Answer.{covarianceNumber, covarianceValues, covarianceAnswer, shapeKernelChecks}
 
 -- ---- a float, its exact value as a fraction, and the whole numbers at its size or next below and next above. What is no number or
 -- infinite counts as 0; no call ever answers with it, since refusals 3 and 4 come first.
@@ -88,7 +90,7 @@ further-away = (
   λ u s h. h .0,
 )
 
--- ---- a shape, and what it gives
+-- ---- the direction of a cosine and a sine, and two floats
 abbrev pub towards : Float → Float → Direction
 towards c s = record { cosine = c; sine = s }
 
@@ -129,16 +131,42 @@ lowest = ofBits binary64 0x3fef_fbff_bff7_fec0
 abbrev pub too-low : Float
 too-low = ofBits binary64 0x3fef_fbff_bff7_febf
 
-abbrev pub covariances : List (Shape × Covariance)
+-- ---- a shape, and what it gives: the covariance or the refusal, document 01's number of it (0: accepted), and its values
+abbrev pub Given : Type 0
+Given = Shape × Covariance × ℕ × List ℤ
+
+abbrev pub entries : Shape → ℤ → ℤ → ℤ → Given
+entries shape xx xy yy = (shape, Covariance.Entries xx xy yy, 0, xx ∷ xy ∷ yy ∷ [])
+
+abbrev pub refused : Shape → ErrorCode → ℕ → Given
+refused shape code number = (shape, Covariance.Refused code, number, [])
+
+abbrev pub covariances : List Given
 covariances =
     -- long 2, short 1, cosine 0.6, sine 0.8; and with the variances exchanged
-    (Oval (fin false 1 (pos 1)) one (towards (ofBits binary64 0x3fe3_3333_3333_3333) (ofBits binary64 0x3fe9_9999_9999_999a)), Covariance.Entries (pos 5571) (pos 1966) (pos 6717))
-    ∷ (Oval one (fin false 1 (pos 1)) (towards (ofBits binary64 0x3fe3_3333_3333_3333) (ofBits binary64 0x3fe9_9999_9999_999a)), Covariance.Entries (pos 6717) (negsuc 1965) (pos 5571))
+    entries (Oval (fin false 1 (pos 1)) one (towards (ofBits binary64 0x3fe3_3333_3333_3333) (ofBits binary64 0x3fe9_9999_9999_999a))) (pos 5571) (pos 1966) (pos 6717)
+    ∷ entries (Oval one (fin false 1 (pos 1)) (towards (ofBits binary64 0x3fe3_3333_3333_3333) (ofBits binary64 0x3fe9_9999_9999_999a))) (pos 6717) (negsuc 1965) (pos 5571)
     -- past 64 square pixels: (c·c) + (s·s) is 1025/1024
-    ∷ (Oval (fin false 1 (pos 6)) (fin false 1 (pos 6)) (towards one (fin false 1 (negsuc 4))), Covariance.Entries (pos 262400) (pos 0) (pos 262400))
+    ∷ entries (Oval (fin false 1 (pos 6)) (fin false 1 (pos 6)) (towards one (fin false 1 (negsuc 4)))) (pos 262400) (pos 0) (pos 262400)
+    -- 2.5 square pixels are 10240 units; "A Matrix never meets this": −4096 units
+    ∷ entries (Round (fin false 5 (negsuc 0))) (pos 10240) (pos 0) (pos 10240)
+    ∷ entries (Matrix (negsuc 4095) (pos 7) (pos 524288)) (negsuc 4095) (pos 7) (pos 524288)
+    -- refusal 3: variances of 65 and −1, and what is no number; of an Oval long or short alone, where 4 would follow
+    ∷ refused (Round (fin false 65 (pos 0))) VarianceOutOfRange 3
+    ∷ refused (Round (fin true 1 (pos 0))) VarianceOutOfRange 3
+    ∷ refused (Round nan) VarianceOutOfRange 3
+    ∷ refused (Oval (fin false 65 (pos 0)) one (towards one one)) VarianceOutOfRange 3
+    ∷ refused (Oval one (fin true 1 (pos 0)) (towards one one)) VarianceOutOfRange 3
+    -- refusal 4: a cosine of 2, a sine of −2, and what is no number; (c·c) + (s·s) is 1 + 1, 1/4 + 1/4, and 1 + 9/4096, past 1 + 4/4096
+    ∷ refused (Oval one one (towards (fin false 1 (pos 1)) zero)) NotADirection 4
+    ∷ refused (Oval one one (towards zero (fin true 1 (pos 1)))) NotADirection 4
+    ∷ refused (Oval one one (towards nan zero)) NotADirection 4
+    ∷ refused (Oval one one (towards one one)) NotADirection 4
+    ∷ refused (Oval one one (towards (fin false 1 (negsuc 0)) (fin false 1 (negsuc 0)))) NotADirection 4
+    ∷ refused (Oval one one (towards one (fin false 3 (negsuc 5)))) NotADirection 4
     ∷ []
 
-pub covered : map (λ row. covarianceAnswer (row .0)) covariances ≡ map (λ row. row .1) covariances
+pub covered : map (λ row. let answer = covarianceAnswer (row .0) in (row .0, answer, covarianceNumber answer, covarianceValues answer)) covariances ≡ covariances
 unfolding variancesFine directionFine varianceInRange directionInRange cosineInRange squareInRange inRange covarianceXX covarianceXY covarianceYY nearestUnits ofBits add sub mul le
 covered = refl
 

@@ -1,9 +1,10 @@
--- The worked differences, each table by one computed proof. Assumes nothing.
+-- The worked differences, each table by one computed proof, and the ends of "within k, 2k and 2k units". Assumes nothing.
 use mathlib.Core.Path.{_≡_, refl}
 use mathlib.Core.List.{List, map}
 use Prim.Native.Nat.{ℕ}
+use lib.Dec.{lit≤, le→leb}
 use lib.ListN.{length}
-use lib.IntN.{ℤ}
+use lib.IntN.{ℤ, pos, negsuc}
 use lib.Ieee.{Float, ofInt, ofBits, add, mul, le}
 use Rattle.limits.specs.Errors.{firstRefusal, outcomeNumber, heldAfter}
 use Rattle.limits.specs.declared.Outcome.{Outcome}
@@ -14,7 +15,7 @@ use Rattle.covariance.specs.Shapes.{cosineInRange, squareInRange, directionInRa
 use Rattle.differences.specs.declared.Difference.{Difference}
 use Rattle.differences.specs.Stencils.{stencilSum, differencesOf}
 use Rattle.differences.specs.Directional.{directionalOf}
-use Rattle.differences.specs.Distances.{unitsPerStep}
+use Rattle.differences.specs.Distances.{unitsPerStep, CloseTo}
 use Rattle.differences.specs.Answers.{differenceChecks, directionalChecks}
 use Rattle.differences.proofs.Table.{Case, undivided, directed, units}
 
@@ -46,3 +47,21 @@ directed-worked = refl
 
 pub units-worked : map (λ row. unitsPerStep (row .0)) units ≡ map (λ row. row .1) units
 units-worked = refl
+
+-- ---- "within k, 2k and 2k units" of the exact run's, which stands over (4 × M) ^ k; `negsuc n` is −(n + 1). No step, and no distance; after
+-- one step, over 16384, 1 and −1 for 0 in a first difference and 3 for 1 in another one; after two, over 1073741824, −1 for 1 and 3 for −1
+pub at-the-end : CloseTo 1 16384 0 (negsuc 2) (negsuc 2) × CloseTo 1 16384 1 (pos 1) (pos 0) × CloseTo 1 16384 1 (negsuc 0) (pos 0)
+    × CloseTo 2 16384 1 (pos 3) (pos 16384) × CloseTo 1 32768 2 (negsuc 0) (pos 1073741824) × CloseTo 2 32768 2 (pos 3) (negsuc 1073741823)
+at-the-end = (lit≤ tt, lit≤ tt, lit≤ tt, lit≤ tt, lit≤ tt, lit≤ tt)
+
+-- and one further in the exact run's whole number is too far. `le→leb` turns a false inequality of two numerals into nothing
+pub past-the-end : ¬ CloseTo 1 16384 0 (negsuc 2) (negsuc 3) × ¬ CloseTo 1 16384 1 (pos 1) (negsuc 0) × ¬ CloseTo 1 16384 1 (negsuc 0) (pos 1)
+    × ¬ CloseTo 2 16384 1 (pos 3) (pos 16383) × ¬ CloseTo 1 32768 2 (negsuc 0) (pos 1073741825) × ¬ CloseTo 2 32768 2 (pos 3) (negsuc 1073741824)
+past-the-end = (
+  le→leb 1 0,
+  le→leb 16385 16384,
+  le→leb 16385 16384,
+  le→leb 32769 32768,
+  le→leb 2147483649 2147483648,
+  le→leb 4294967297 4294967296,
+)

@@ -4,7 +4,7 @@ use mathlib.Core.Path.{_≡_, refl, sym, ap, ap₂, _∙_}
 use mathlib.Core.Logic.{_⊎_, inl, inr, ⊎-elim}
 use mathlib.Core.Bool.{Bool, true, false, not}
 use mathlib.Core.List.{List}
-use Prim.Native.Nat.{ℕ, zero, suc, _+_, _-_, _*_, _/_, _%_, _≤_, _<_}
+use Prim.Native.Nat.{ℕ, suc, _+_, _-_, _*_, _/_, _%_, _≤_, _<_}
 use native.Mathlib.Nat.{add-mul, zero-mul, zero-div, zero-mod, suc-mul, mul-comm, mul-le-mul-right, mod-lt, div-add-mod', div-mul-le-self, div-eq-of-lt-le, div-lt-iff-lt-mul}
 use native.Mathlib.Omega.{arith}
 use lib.Dec.{T, ltb, ltb→lt, nltb→le}
@@ -12,6 +12,7 @@ use lib.ListN.{getD}
 use lib.IntN.{ℤ, pos, negsuc, _+ℤ_}
 use borrow.Author.Tests.{lt-ltb, le-ltb}
 use Rattle.image.specs.Image.{nearestPlace, beside, pixelAt}
+use Rattle.averaging.proofs.Images.{place-before}
 use Rattle.differences.specs.declared.Place.{Place}
 use Rattle.differences.specs.Places.{afterOf, placeAt, around, PlaceInside}
 
@@ -146,8 +147,7 @@ pub data Step : ℤ → Type 0 where
 
 -- the nearest place a step away
 nearest-beside : (n x : ℕ) → x < n → {d : ℤ} → Step d → nearestPlace n (pos x +ℤ d) ≡ beside (x - 1) x (afterOf x 1 n) d
-nearest-beside n zero l back = refl
-nearest-beside n (suc x) l back = rw (le-ltb (suc x) 1 (omega arith)) (omega arith)
+nearest-beside n x l back = place-before n x ∙ omega arith
 nearest-beside n x l none = omega arith
 nearest-beside n x l on = ⊎-elim (λ h. omega (arith, h)) (λ h. omega (arith, h)) (after-either x 1 n)
 

@@ -8,19 +8,13 @@ use native.Mathlib.Omega.{arith}
 use lib.ListN.{length, getD, drop, length-drop}
 use lib.Seq.{length-take-le, getD-take, getD-drop}
 use lib.IntN.{ℤ, pos, negsuc, _+ℤ_}
-use borrow.Author.Tests.{le-ltb}
 use Rattle.kernel.specs.Offsets.{Offset, offsets, sumOver, weighted}
 use Rattle.kernel.specs.declared.Kernel.{Kernel}
 use Rattle.image.specs.Image.{nearestPlace, beside, pixelAt, entries, rows}
 use Rattle.averaging.specs.Steps.{nearest, weightedAt, stepOf}
 use Rattle.averaging.proofs.Averages.{Each}
-use Rattle.averaging.proofs.Images.{nearest-lt, length-entries, entry, same-entries}
+use Rattle.averaging.proofs.Images.{nearest-lt, place-before, length-entries, entry, same-entries}
 use Rattle.row_core.specs.Rows.{part, paddedOf, columnOf, pixelIn, rowOf}
-
--- ---- places: the one before i, as the code counts it. Those at i and after it compute so.
-pub place-before : (n i : ℕ) → nearestPlace n (pos i +ℤ negsuc 0) ≡ min (i - 1) (n - 1)
-place-before n zero = omega arith
-place-before n (suc i) = rw (le-ltb (suc i) 1 (omega arith)) (omega arith)
 
 -- ---- parts of a list
 

@@ -10,9 +10,8 @@ use mir.Syntax.{w16, w32}
 use mir.Val.{Fits}
 use borrow.Author.Needs.{needs}
 use Rattle.image.specs.Image.{nearestPlace}
-use Rattle.averaging.proofs.Images.{Filled, filled-none, filled-more, filled-all}
+use Rattle.averaging.proofs.Images.{place-before, Filled, filled-none, filled-more, filled-all}
 use Rattle.row_core.specs.Rows.{paddedOf}
-use Rattle.row_core.proofs.Rows.{place-before}
 use Rattle.row_core.proofs.pad.Statement.{statement}
 use Rattle.row_core.proofs.pad.Tie as tie
 
