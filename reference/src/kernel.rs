@@ -12,6 +12,8 @@
 //! and that is checked before it is given.
 
 use crate::error_code::{check_steps, ErrorCode, NO_KERNEL};
+use std::cell::RefCell;
+use std::collections::HashMap;
 use std::ops::RangeInclusive;
 use std::sync::OnceLock;
 
@@ -230,6 +232,23 @@ pub fn exists(xx: i64, xy: i64, yy: i64, m: i64) -> bool {
     matches!(existence(xx, xy, yy, m), Existence::Shown { .. })
 }
 
+/// The same, remembered: a service asks for its few kernels again at every call.
+fn exists_as_before(xx: i64, xy: i64, yy: i64, m: i64) -> bool {
+    /// So many answers are kept, then all are forgotten.
+    const MOST: usize = 4096;
+    thread_local! {
+        static ANSWERS: RefCell<HashMap<[i64; 4], bool>> = RefCell::default();
+    }
+    ANSWERS.with_borrow_mut(|answers| {
+        if answers.len() == MOST {
+            answers.clear();
+        }
+        *answers
+            .entry([xx, xy, yy, m])
+            .or_insert_with(|| exists(xx, xy, yy, m))
+    })
+}
+
 /// The free number f: the larger of |xy| and xx + yy − m.
 pub fn free_number(xx: i64, xy: i64, yy: i64, m: i64) -> i64 {
     xy.abs().max(xx + yy - m)
@@ -262,7 +281,7 @@ pub fn kernel(covariance: Covariance, steps: u32) -> Result<Kernel, ErrorCode> {
     check_steps(steps)?;
     let m = UNITS * i64::from(steps);
     let [xx, xy, yy] = [covariance.xx, covariance.xy, covariance.yy].map(i64::from);
-    if !exists(xx, xy, yy, m) {
+    if !exists_as_before(xx, xy, yy, m) {
         return Err(NO_KERNEL);
     }
     let weights = molecule(xx, xy, yy, m);

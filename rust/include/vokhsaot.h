@@ -25,8 +25,8 @@ extern "C" {
 enum {
     /* Words of a service record. */
     VOKHSAOT_WORDS = 67,
-    /* Slots of the service. */
-    VOKHSAOT_SLOTS = 8,
+    /* Seats of the service. */
+    VOKHSAOT_SEATS = 8,
     /* Pixels of a buffer, and so of the largest picture of a job. */
     VOKHSAOT_BUFFER_PIXELS = 1024,
     /* Pixels of the store: 16 buffers. */
@@ -156,8 +156,8 @@ uint32_t vokhsaot_answer_text(const uint8_t *text, size_t text_len, uint8_t *out
 /* ---- The service. */
 
 /*
- * The service record is VOKHSAOT_WORDS words: for each slot its job number (0 where it is empty), xx, xy, yy, steps, steps
- * left, width and height; then the last number given, the slot last filled and the slot last served. The job numbers and
+ * The service record is VOKHSAOT_WORDS words: for each seat its job number (0 where it is empty), xx, xy, yy, steps, steps
+ * left, width and height; then the last number given, the seat last filled and the seat last served. The job numbers and
  * the last number have 64 bits, each other word 32; xx, xy and yy stand as their two's complement in 32 bits. No call
  * trusts the words: what is not a record in order is refused with 2. Words of another length than VOKHSAOT_WORDS are no record:
  * the opening, which would write one there, refuses them with 9 as a lent buffer of a wrong length, and every other call with 2.
@@ -167,7 +167,7 @@ uint32_t vokhsaot_answer_text(const uint8_t *text, size_t text_len, uint8_t *out
 uint32_t vokhsaot_opening(uint64_t *words, size_t words_len);
 
 /*
- * Submit: takes a picture of width times height pixels into a free slot, and writes the new job's number. Refusals 2, 3, 4,
+ * Submit: takes a picture of width times height pixels into a free seat, and writes the new job's number. Refusals 2, 3, 4,
  * 5, 6, 9, 10, 11, 12, 13. The shape is a covariance matrix in 1/4096 square pixel,
  */
 uint32_t vokhsaot_submit_matrix(uint64_t *words, size_t words_len, uint16_t *store, size_t store_len, int32_t xx, int32_t xy,
@@ -191,16 +191,16 @@ uint32_t vokhsaot_submit_oval(uint64_t *words, size_t words_len, uint16_t *store
 uint32_t vokhsaot_tick(uint64_t *words, size_t words_len, uint16_t *store, size_t store_len, uint64_t *number);
 
 /*
- * Collect: writes the picture of a finished job to the lent one, of width times height pixels, empties the slot, and writes
+ * Collect: writes the picture of a finished job to the lent one, of width times height pixels, empties the seat, and writes
  * the job's number. The store does not change. Refusals 2, 7, 8, 9.
  */
 uint32_t vokhsaot_collect(uint64_t *words, size_t words_len, const uint16_t *store, size_t store_len, uint64_t job,
                           uint16_t *picture, size_t picture_len, uint64_t *number);
 
-/* Withdraw: empties the slot of a job, finished or not, and writes the job's number. Refusals 2, 7. */
+/* Withdraw: empties the seat of a job, finished or not, and writes the job's number. Refusals 2, 7. */
 uint32_t vokhsaot_withdraw(uint64_t *words, size_t words_len, uint64_t job, uint64_t *number);
 
-/* Writes the number of free buffers: 16 less 2 for each filled slot. Refusal 2. */
+/* Writes the number of free buffers: 16 less 2 for each filled seat. Refusal 2. */
 uint32_t vokhsaot_free_count(const uint64_t *words, size_t words_len, uint32_t *count);
 
 #ifdef __cplusplus

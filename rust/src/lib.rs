@@ -28,6 +28,6 @@ mod text;
 
 pub use error::Error;
 pub use picture::{difference, directional, pixel, run, shown, Difference};
-pub use service::{Service, BUFFER_PIXELS, SLOTS, STORE_PIXELS, WORDS};
+pub use service::{Service, BUFFER_PIXELS, SEATS, STORE_PIXELS, WORDS};
 pub use shape::{covariance, kernel, Covariance, Direction, Kernel, Shape};
 pub use text::{answer_text, MOST_ANSWER_BYTES};

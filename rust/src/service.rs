@@ -1,4 +1,4 @@
-//! The service: eight slots over a store of 16 buffers.
+//! The service: eight seats over a store of 16 buffers.
 
 use crate::error::{outcome, Error};
 use crate::exported;
@@ -6,15 +6,15 @@ use crate::shape::{Direction, Shape};
 
 /// Words of a service record.
 pub const WORDS: usize = 67;
-/// Slots of the service.
-pub const SLOTS: usize = 8;
+/// Seats of the service.
+pub const SEATS: usize = 8;
 /// Pixels of a buffer, and so of the largest picture of a job.
 pub const BUFFER_PIXELS: usize = 1024;
 /// Pixels of the store.
 pub const STORE_PIXELS: usize = 16 * BUFFER_PIXELS;
 
-/// A service: its record and its store. The record is 67 words: for each slot its number, xx, xy, yy, steps, steps left,
-/// width and height, then the last number given, the slot last filled and the slot last served.
+/// A service: its record and its store. The record is 67 words: for each seat its number, xx, xy, yy, steps, steps left,
+/// width and height, then the last number given, the seat last filled and the seat last served.
 #[derive(Clone, Debug, PartialEq, Eq)]
 pub struct Service {
     words: Vec<u64>,
@@ -144,7 +144,7 @@ impl Service {
         Ok((number != 0).then_some(number))
     }
 
-    /// Writes a finished job's picture out, empties its slot and answers its number.
+    /// Writes a finished job's picture out, empties its seat and answers its number.
     pub fn collect(&mut self, job: u64, picture: &mut [u16]) -> Result<u64, Error> {
         let mut number = 0;
         // SAFETY: each pointer stands with the length of its own slice, and none of them overlap.
@@ -164,7 +164,7 @@ impl Service {
         Ok(number)
     }
 
-    /// Empties a job's slot, finished or not, and answers its number.
+    /// Empties a job's seat, finished or not, and answers its number.
     pub fn withdraw(&mut self, job: u64) -> Result<u64, Error> {
         let mut number = 0;
         // SAFETY: the pointer and the length are of one slice.

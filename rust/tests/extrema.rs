@@ -10,7 +10,7 @@ use reference::generate::{pixels_within, random_gap, random_heights, random_pixe
 use reference::random::Random;
 use reference::shape::shape_kernel;
 use reference::smooth::places;
-use vokhsaot::{run, shown, Service, Shape, BUFFER_PIXELS, SLOTS, STORE_PIXELS};
+use vokhsaot::{run, shown, Service, Shape, BUFFER_PIXELS, SEATS, STORE_PIXELS};
 
 /// A shape with a kernel, and its steps.
 fn work(random: &mut Random) -> (Shape, u32) {
@@ -90,7 +90,7 @@ struct Job {
 
 impl Job {
     fn find(service: &Service, number: u64) -> Job {
-        let mut seats = service.words().chunks(8).take(SLOTS);
+        let mut seats = service.words().chunks(8).take(SEATS);
         let seat = seats.position(|words| words[0] == number).unwrap();
         let words = &service.words()[8 * seat..8 * (seat + 1)];
         Job {
@@ -137,7 +137,7 @@ fn ticks() {
         let mut service = Service::with_store(random_pixels(&mut random, STORE_PIXELS));
         let mut pairs: Vec<([u64; 2], u16)> = Vec::new();
         for _ in 0..20 {
-            while pairs.len() < SLOTS / 2 {
+            while pairs.len() < SEATS / 2 {
                 let (shape, steps) = work(&mut random);
                 let (width, height) = sides(&mut random);
                 let one = random_heights(&mut random, width, height);

@@ -1,60 +1,103 @@
 //! `difference`: an undivided difference of a picture, as a picture for the eye and as numbers.
 
-use crate::args::{Arguments, Syntax};
-use crate::error::Failure;
+use crate::error::{say, Failure, Outcome};
 use crate::files;
-use crate::pgm::Picture;
+use crate::pictures::Picture;
 use crate::shape;
+use std::ffi::OsString;
 use std::fmt::Display;
 use std::io::{self, IsTerminal};
-use vokhsaot::{difference, directional, Difference};
+use vokhsaot::{difference, directional, Difference, Direction};
 
-pub const SYNTAX: Syntax = Syntax {
-    command: "difference",
-    summary: "take an undivided difference of a PGM picture",
-    valued: &["direction", "numbers"],
-    flags: &["x", "y", "xx", "yy", "xy"],
-    operands: &["INPUT", "OUTPUT"],
-    help: "\
-Usage: vokhsaot difference WHICH INPUT OUTPUT [--numbers FILE]
-
-Writes a 16-bit PGM picture for viewing: zero is 32768, and the scale is the
-largest one with which all differences fit.
-
-WHICH is one of:
-  --x, --y                 L(x+1) - L(x-1), likewise in y
-  --xx, --yy               L(x+1) - 2L + L(x-1), likewise in y
-  --xy                     L(+,+) - L(-,+) - L(+,-) + L(-,-)
-  --direction DEGREES      the directional one; degrees turn from x (right)
-  --direction COSINE,SINE  towards y (down, with the row number)
-
-  --numbers FILE           also write the differences as text: tabs between,
-                           one row a line
-
+/// Take an undivided difference of a picture
+#[derive(clap::Args)]
+#[command(
+    before_help = "\
+Writes a 16-bit picture for viewing: zero is 32768, and the scale is the largest
+one with which all differences fit. Exactly one of the differences is wanted.",
+    after_help = "\
 Examples:
   $ vokhsaot difference --x edge.pgm x.pgm --numbers -
-  $ vokhsaot difference --direction 0.6,0.8 edge.pgm slanted.pgm --numbers -
-",
-};
+  $ vokhsaot difference --direction 0.6,0.8 edge.pgm slanted.pgm --numbers -"
+)]
+pub struct Options {
+    /// L(x+1) - L(x-1)
+    #[arg(long)]
+    x: bool,
+    /// L(y+1) - L(y-1)
+    #[arg(long)]
+    y: bool,
+    /// L(x+1) - 2L + L(x-1)
+    #[arg(long)]
+    xx: bool,
+    /// L(y+1) - 2L + L(y-1)
+    #[arg(long)]
+    yy: bool,
+    /// L(+,+) - L(-,+) - L(+,-) + L(-,-)
+    #[arg(long)]
+    xy: bool,
+    /// The directional one; degrees turn from x (right) towards y (down, with the row number); COSINE,SINE is taken too
+    #[arg(long, value_name = "DEGREES", value_parser = shape::direction, allow_hyphen_values = true)]
+    direction: Option<Direction>,
+    /// Also write the differences as text: tabs between, one row a line
+    #[arg(long, value_name = "FILE")]
+    numbers: Option<OsString>,
+    /// The picture; - is standard input
+    #[arg(default_value = "-")]
+    input: OsString,
+    /// Where the picture for viewing goes; a name that ends in .png makes it PNG
+    #[arg(default_value = "-")]
+    output: OsString,
+}
+
+/// What is asked for.
+enum Which {
+    Undivided(Difference),
+    Directional(Direction),
+}
+
+impl Options {
+    fn which(&self) -> Result<Which, Failure> {
+        let undivided = [
+            (self.x, Difference::FirstX),
+            (self.y, Difference::FirstY),
+            (self.xx, Difference::SecondX),
+            (self.yy, Difference::SecondY),
+            (self.xy, Difference::Mixed),
+        ];
+        let undivided = undivided.into_iter().filter(|(given, _)| *given);
+        let undivided = undivided.map(|(_, difference)| Which::Undivided(difference));
+        let mut given: Vec<Which> = undivided
+            .chain(self.direction.map(Which::Directional))
+            .collect();
+        match (given.pop(), given.len()) {
+            (Some(which), 0) => Ok(which),
+            _ => Err(Failure::Usage {
+                command: Some("difference"),
+                message: "exactly one of --x, --y, --xx, --yy, --xy, --direction is wanted"
+                    .to_owned(),
+            }),
+        }
+    }
+}
 
 /// Zero in the picture for viewing.
 const GREY: u16 = 32768;
 
-pub fn command(arguments: &Arguments) -> Result<(), Failure> {
-    let which = arguments.one_of(&["x", "y", "xx", "yy", "xy", "direction"])?;
-    let direction = arguments.optional("direction", shape::direction)?;
-    let picture = files::read_picture(arguments.operand(0))?;
+pub fn command(options: &Options) -> Result<Outcome, Failure> {
+    let which = options.which()?;
+    let picture = files::read_picture(&options.input)?;
     let (width, height) = (picture.width, picture.height);
-    let (floats, text) = match direction {
-        Some(direction) => {
+    let (floats, text) = match which {
+        Which::Directional(direction) => {
             let mut found = vec![0.0; picture.pixels.len()];
             directional(direction, &picture.pixels, width, height, &mut found)?;
             let text = rows(&found, width);
             (found, text)
         }
-        None => {
+        Which::Undivided(which) => {
             let mut found = vec![0; picture.pixels.len()];
-            difference(named(which), &picture.pixels, width, height, &mut found)?;
+            difference(which, &picture.pixels, width, height, &mut found)?;
             let text = rows(&found, width);
             (found.into_iter().map(f64::from).collect(), text)
         }
@@ -65,25 +108,16 @@ pub fn command(arguments: &Arguments) -> Result<(), Failure> {
         pixels: floats.iter().map(|value| scale.grey(*value)).collect(),
         ..picture
     };
-    let mut outputs = vec![(arguments.operand(1), viewed.written())];
-    if let Some(name) = arguments.value("numbers") {
-        outputs.push((name.as_ref(), text.into_bytes()));
+    files::check_picture_goes(&options.output)?;
+    let mut outputs = vec![(options.output.as_os_str(), viewed.written(&options.output)?)];
+    if let Some(name) = &options.numbers {
+        outputs.push((name, text.into_bytes()));
     }
     files::write_all(&outputs)?;
     if io::stderr().is_terminal() {
-        eprintln!("{}", scale.text());
+        say(&scale.text());
     }
-    Ok(())
-}
-
-fn named(which: &str) -> Difference {
-    match which {
-        "x" => Difference::FirstX,
-        "y" => Difference::FirstY,
-        "xx" => Difference::SecondX,
-        "yy" => Difference::SecondY,
-        _ => Difference::Mixed,
-    }
+    Ok(Outcome::Good)
 }
 
 /// The entries by rows, tabs between.

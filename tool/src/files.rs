@@ -1,22 +1,26 @@
 //! Files in and out. An output appears whole or not at all: it is written beside its place and renamed when everything
 //! is done, so that no error leaves half a picture or changes an old one.
 
-use crate::error::Failure;
-use crate::pgm::{self, Picture};
+use crate::error::{one_line, Failure};
+use crate::interrupt;
+use crate::pictures::{self, Picture};
 use std::ffi::OsStr;
 use std::fs::{self, File, OpenOptions};
-use std::io::{self, ErrorKind, Read, Write};
+use std::io::{self, BufReader, ErrorKind, IsTerminal, Write};
 use std::path::{Path, PathBuf};
 
 /// The name that stands for standard input and standard output.
 const STANDARD: &str = "-";
 
-fn fault(name: &OsStr, message: impl std::fmt::Display) -> Failure {
-    Failure::Fault(format!("{}: {message}", name.to_string_lossy()))
+/// A fault of a file, in one line whatever its name is.
+pub fn fault(name: &OsStr, message: impl std::fmt::Display) -> Failure {
+    let name = one_line(&name.to_string_lossy());
+    let name = if name.is_empty() { "\"\"" } else { &name };
+    Failure::Input(format!("{name}: {message}"))
 }
 
 /// The name of an input in messages.
-fn input_name(name: &OsStr) -> &OsStr {
+pub fn input_name(name: &OsStr) -> &OsStr {
     if name == STANDARD {
         OsStr::new("standard input")
     } else {
@@ -24,45 +28,36 @@ fn input_name(name: &OsStr) -> &OsStr {
     }
 }
 
-fn read(name: &OsStr) -> Result<Vec<u8>, Failure> {
-    let bytes = if name == STANDARD {
-        let mut bytes = Vec::new();
-        io::stdin().lock().read_to_end(&mut bytes).map(|_| bytes)
-    } else {
-        fs::read(name)
-    };
-    bytes.map_err(|error| fault(input_name(name), error))
+/// Whether a name stands for standard input or standard output.
+pub fn is_standard(name: &OsStr) -> bool {
+    name == STANDARD
 }
 
-/// Reads a file and what `understand` makes of it; a message of that is told with the file's name.
-fn read_as<T>(name: &OsStr, understand: impl Fn(&[u8]) -> Result<T, String>) -> Result<T, Failure> {
-    understand(&read(name)?).map_err(|message| fault(input_name(name), message))
-}
-
+/// Reads a picture as it comes. Nobody types one: a terminal in its place is a name that was forgotten.
 pub fn read_picture(name: &OsStr) -> Result<Picture, Failure> {
-    read_as(name, pgm::read)
+    let picture = if is_standard(name) {
+        let mut input = io::stdin().lock();
+        if input.is_terminal() {
+            let message = "no picture is named, and standard input is a terminal";
+            return Err(Failure::Input(message.to_owned()));
+        }
+        pictures::read(&mut input)
+    } else {
+        let file = File::open(name).map_err(|error| fault(name, error))?;
+        pictures::read(&mut BufReader::with_capacity(1 << 16, file))
+    };
+    picture.map_err(|message| fault(input_name(name), message))
 }
 
-/// Reads a text and what `understand` makes of it.
-pub fn read_text<T>(
-    name: &OsStr,
-    understand: impl Fn(&str) -> Result<T, String>,
-) -> Result<T, Failure> {
-    read_as(name, |bytes| match std::str::from_utf8(bytes) {
-        Ok(text) => understand(text),
-        Err(_) => Err("this is no UTF-8 text".to_owned()),
-    })
-}
-
-/// Prints on standard output. A reader that has seen enough and went away is no error.
+/// Prints on standard output. A reader that has seen enough and went away ends the command without a word.
 pub fn print(bytes: &[u8]) -> Result<(), Failure> {
     let mut out = io::stdout().lock();
-    match out.write_all(bytes).and_then(|()| out.flush()) {
-        Err(error) if error.kind() != ErrorKind::BrokenPipe => {
-            Err(fault(OsStr::new("standard output"), error))
-        }
-        _ => Ok(()),
-    }
+    out.write_all(bytes)
+        .and_then(|()| out.flush())
+        .map_err(|error| match error.kind() {
+            ErrorKind::BrokenPipe => Failure::ReaderGone,
+            _ => fault(OsStr::new("standard output"), error),
+        })
 }
 
 /// Where an output goes.
@@ -84,14 +79,38 @@ impl Target {
         match fs::metadata(path) {
             Ok(found) if found.is_dir() => Err(fault(name, "this is a folder")),
             Ok(found) if !found.is_file() => Ok(Target::Direct(path.to_owned())),
-            Ok(_) => resolved(name, path).map(Target::File),
-            Err(_) => match path.file_name() {
-                None => Err(fault(name, "this is no file's name")),
-                Some(file) => {
-                    let folder = resolved(name, folder_of(path))?;
-                    Ok(Target::File(folder.join(file)))
-                }
-            },
+            // Renaming asks for no right to the file itself, and root has every right: the mode is the owner's word.
+            Ok(found) if found.permissions().readonly() => {
+                Err(fault(name, "this file is write-protected"))
+            }
+            Ok(_) => {
+                // Who may not write the file may not replace it either.
+                let opened = OpenOptions::new().write(true).open(path);
+                opened.map_err(|error| fault(name, error))?;
+                resolved(name, path).map(Target::File)
+            }
+            Err(_) => Target::of_new(name, path),
+        }
+    }
+}
+
+impl Target {
+    /// A file that is not there yet, or that a link leads to.
+    fn of_new(name: &OsStr, path: &Path) -> Result<Target, Failure> {
+        if let Ok(leads_to) = fs::read_link(path) {
+            let place = folder_of(path).join(leads_to);
+            return match fs::symlink_metadata(&place) {
+                Ok(_) => Err(fault(name, "this link leads to a link that leads nowhere")),
+                Err(_) => Target::of_new(name, &place),
+            };
+        }
+        match path.file_name() {
+            // A path takes no notice of a slash at its end.
+            Some(file) if !path.to_string_lossy().ends_with('/') => {
+                let folder = resolved(name, folder_of(path))?;
+                Ok(Target::File(folder.join(file)))
+            }
+            _ => Err(fault(name, "this is no file's name")),
         }
     }
 }
@@ -117,6 +136,7 @@ struct Staged {
 impl Staged {
     fn new(place: PathBuf, bytes: &[u8]) -> io::Result<Staged> {
         let (temporary, mut file) = Staged::create(folder_of(&place))?;
+        interrupt::add_temporary(&temporary);
         let staged = Staged { temporary, place };
         if let Ok(old) = fs::metadata(&staged.place) {
             file.set_permissions(old.permissions())?;
@@ -145,7 +165,35 @@ impl Drop for Staged {
     fn drop(&mut self) {
         // After the renaming there is nothing of this name.
         let _ = fs::remove_file(&self.temporary);
+        interrupt::forget_temporary(&self.temporary);
     }
+}
+
+/// Nobody reads a picture's bytes: a terminal in the place of a file is a name that was forgotten.
+pub fn check_picture_goes(name: &OsStr) -> Result<(), Failure> {
+    match is_standard(name) && io::stdout().is_terminal() {
+        true => {
+            let message = "no output is named, and standard output is a terminal";
+            Err(Failure::Input(message.to_owned()))
+        }
+        false => Ok(()),
+    }
+}
+
+/// Whether files of these names could be written now: work of hours is not to be done in vain.
+pub fn check_writable(names: &[&OsStr]) -> Result<(), Failure> {
+    for name in names {
+        if let Target::File(place) = Target::of(name)? {
+            Staged::new(place, b"").map_err(|error| fault(name, error))?;
+        }
+    }
+    Ok(())
+}
+
+/// Writes a picture, as the kind of file that its name asks for.
+pub fn write_picture(name: &OsStr, picture: &Picture) -> Result<(), Failure> {
+    check_picture_goes(name)?;
+    write_all(&[(name, picture.written(name)?)])
 }
 
 /// Writes all outputs of a command, or none: the files are put in their places when everything else went well.

@@ -1,31 +1,38 @@
 //! `horizon`: a synthetic picture of the Earth's limb over dark space. Whole numbers and integer square roots alone, so
 //! that a seed gives the same bytes on every machine.
 
-use crate::args::{Arguments, Syntax};
-use crate::error::Failure;
+use crate::error::{Failure, Outcome};
 use crate::files;
 use crate::numbers::{long_unsigned, unsigned, MOST_SIDE};
-use crate::pgm::Picture;
+use crate::pictures::Picture;
 use reference::random::Random;
+use std::ffi::OsString;
 use vokhsaot::Error;
 
-pub const SYNTAX: Syntax = Syntax {
-    command: "horizon",
-    summary: "make a synthetic horizon picture",
-    valued: &["width", "height", "seed"],
-    flags: &[],
-    operands: &["OUTPUT"],
-    help: "\
-Usage: vokhsaot horizon --width W --height H --seed S OUTPUT
-
-Writes a 16-bit PGM picture (sides 1 to 1024; - is standard output): a bright
-limb over dark space with a soft edge, noise and a few glints. The same numbers
-give the same bytes on every machine.
-
+/// Make a synthetic horizon picture
+#[derive(clap::Args)]
+#[command(
+    before_help = "\
+Writes a 16-bit picture: a bright limb over dark space with a soft edge, noise
+and a few glints. The same numbers give the same pixels on every machine.",
+    after_help = "\
 Examples:
-  $ vokhsaot horizon --width 64 --height 48 --seed 7 horizon.pgm
-",
-};
+  $ vokhsaot horizon --width 64 --height 48 --seed 7 horizon.pgm"
+)]
+pub struct Options {
+    /// Its width, 1 to 1024
+    #[arg(long, value_name = "W", value_parser = unsigned, allow_hyphen_values = true)]
+    width: u32,
+    /// Its height, 1 to 1024
+    #[arg(long, value_name = "H", value_parser = unsigned, allow_hyphen_values = true)]
+    height: u32,
+    /// The seed of limb, noise and glints
+    #[arg(long, value_name = "S", value_parser = long_unsigned, allow_hyphen_values = true)]
+    seed: u64,
+    /// Where the picture goes; a name in .png makes it PNG
+    #[arg(default_value = "-")]
+    output: OsString,
+}
 
 /// Lengths are in 1/256 pixel.
 const PIXEL: i64 = 256;
@@ -38,18 +45,14 @@ const MOST_FADING: i64 = 16_000;
 /// A pixel's noise is the sum of four numbers up to this, less their mean.
 const NOISE: i64 = 600;
 
-pub fn command(arguments: &Arguments) -> Result<(), Failure> {
-    let width = arguments.needed("width", unsigned)?;
-    let height = arguments.needed("height", unsigned)?;
-    let seed = arguments.needed("seed", long_unsigned)?;
-    if ![width, height]
-        .iter()
-        .all(|side| (1..=MOST_SIDE).contains(side))
-    {
+pub fn command(options: &Options) -> Result<Outcome, Failure> {
+    let sides = [options.width, options.height];
+    if !sides.iter().all(|side| (1..=MOST_SIDE).contains(side)) {
         return Err(Error::SideOutOfRange.into());
     }
-    let picture = picture(width, height, seed);
-    files::write_all(&[(arguments.operand(0), picture.written())])
+    let picture = picture(options.width, options.height, options.seed);
+    files::write_picture(&options.output, &picture)?;
+    Ok(Outcome::Good)
 }
 
 fn picture(width: u32, height: u32, seed: u64) -> Picture {

@@ -1,50 +1,39 @@
 //! `kernel`: the nine weights of a shape and a step count, or why there are none.
 
-use crate::args::{Arguments, Syntax};
-use crate::error::Failure;
+use crate::error::{refusal_text, Failure, Outcome};
 use crate::files;
 use crate::numbers::Fraction;
-use crate::shape::{self, shape_help, UNITS};
-use vokhsaot::{covariance, kernel, Covariance, Error, Kernel};
+use crate::shape::{self, RunOptions, MOST_STEPS, UNITS};
+use vokhsaot::{covariance, kernel, Covariance, Error, Kernel, Shape};
 
-pub const SYNTAX: Syntax = Syntax {
-    command: "kernel",
-    summary: "print a shape's kernel, or why there is none",
-    valued: shape::OPTIONS,
-    flags: &[],
-    operands: &[],
-    help: concat!(
-        "\
-Usage: vokhsaot kernel SHAPE --steps K
-
+/// Print a shape's kernel, or why there is none
+#[derive(clap::Args)]
+#[command(
+    before_help = "\
 Prints the 3 × 3 kernel as fractions, the covariance worked back from it and the
-free number f; or the condition that fails, by how much, and how many steps
-(at most 64) would be enough. Without a kernel the exit status is 1.
-
-",
-        shape_help!(),
-        "
+free number f; or the condition that fails, by how much, and how many steps (at
+most 64) would be enough. Without a kernel the exit status is 1.",
+    after_help = "\
 Examples:
   $ vokhsaot kernel --matrix 4097,0,4096 --steps 2
-  $ vokhsaot kernel --matrix 4097,0,4096 --steps 1
-"
-    ),
-};
+  $ vokhsaot kernel --matrix 4097,0,4096 --steps 1"
+)]
+pub struct Options {
+    #[command(flatten)]
+    run: RunOptions,
+}
 
-/// No run has more steps.
-const MOST_STEPS: i128 = 64;
-
-pub fn command(arguments: &Arguments) -> Result<(), Failure> {
-    let (shape, steps) = shape::from_options(arguments)?;
+pub fn command(options: &Options) -> Result<Outcome, Failure> {
+    let (shape, steps) = options.run.read("kernel")?;
     let entries = covariance(shape)?;
     let (text, outcome) = match kernel(shape, steps) {
-        Ok(found) => (table_text(&found, steps), Ok(())),
-        Err(Error::NoKernel) => (reasons(entries, steps), Err(Error::NoKernel.into())),
+        Ok(found) => (table_text(&found, steps), Outcome::Good),
+        Err(Error::NoKernel) => (no_kernel_text(entries, steps), Outcome::Differs),
         Err(refusal) => return Err(refusal.into()),
     };
     let head = format!("covariance {}\n", covariance_text(entries));
     files::print((head + &text).as_bytes())?;
-    outcome
+    Ok(outcome)
 }
 
 fn covariance_text(entries: Covariance) -> String {
@@ -55,6 +44,17 @@ fn covariance_text(entries: Covariance) -> String {
 /// M, which a variance must not exceed.
 fn most_variance(steps: u32) -> i128 {
     i128::from(UNITS) * i128::from(steps)
+}
+
+fn no_kernel_text(entries: Covariance, steps: u32) -> String {
+    let mut text = format!(
+        "no kernel with steps {steps}, M = {}\n",
+        most_variance(steps)
+    );
+    for reason in reasons(entries, steps) {
+        text += &format!("  {reason}\n");
+    }
+    text + &format!("{}\n", refusal_text(Error::NoKernel))
 }
 
 fn table_text(kernel: &Kernel, steps: u32) -> String {
@@ -74,6 +74,34 @@ fn table_text(kernel: &Kernel, steps: u32) -> String {
     text += &format!("  one step: xx {xx}, xy {xy}, yy {yy}\n");
     let [xx, xy, yy] = [xx, xy, yy].map(|entry| entry.times(steps.into()));
     text + &format!("  all steps: xx {xx}, xy {xy}, yy {yy}\n")
+}
+
+/// A refusal of a run as it is told: with the reasons where there is no kernel.
+pub fn explained(refusal: Error, shape: Shape, steps: u32) -> Failure {
+    match (refusal, covariance(shape)) {
+        (Error::NoKernel, Ok(entries)) => {
+            let sentence = refusal_text(refusal);
+            let reasons = reasons(entries, steps).join("; ");
+            Failure::Input(format!("{}: {reasons}", sentence.trim_end_matches('.')))
+        }
+        _ => refusal.into(),
+    }
+}
+
+/// The fewest steps with which a shape's kernel has weight at its centre, where 64 are enough. The library is asked: which
+/// kernels are hollow is its choice of f.
+pub fn fewest_with_centre(shape: Shape) -> Option<u32> {
+    (1..=MOST_STEPS).find(|steps| kernel(shape, *steps).is_ok_and(|found| found.weight(0, 0) > 0))
+}
+
+/// The largest difference that rounding holds for certain: a step leaves a pixel as it is where no neighbour differs from
+/// it by more. None where it leaves every pixel as it is, whatever the difference.
+///
+/// A step adds the sum of weight × difference over the sum of weights to a pixel. With differences of at most d that is at
+/// most (sum − centre) × d / sum. A half goes up, so it must be less than a half, and falls need more than a half.
+pub fn held_difference(kernel: &Kernel) -> Option<u64> {
+    let around = kernel.sum - kernel.weight(0, 0);
+    (kernel.sum - 1).checked_div(2 * around)
 }
 
 /// f as the table shows it: the weights of (1, 1) and (1, −1) are f + xy and f − xy over 4 × M.
@@ -99,31 +127,35 @@ fn worked_back(kernel: &Kernel) -> [Fraction; 3] {
     ]
 }
 
-/// Which of the two conditions for a kernel fail. Steps are 1 to 64 here: they are refused before.
-fn reasons(entries: Covariance, steps: u32) -> String {
+/// Why there is no kernel: which of the two conditions fail, by how much, and the steps that would do. Steps are 1 to 64
+/// here: they are refused before.
+pub fn reasons(entries: Covariance, steps: u32) -> Vec<String> {
     let [xx, xy, yy] = [entries.xx, entries.xy, entries.yy].map(i128::from);
     let (smaller, larger) = (xx.min(yy), xx.max(yy));
     let leans_too_far = xy.abs() - smaller;
     let m = most_variance(steps);
-    let mut text = format!("no kernel with steps {steps}, M = {m}\n");
-    if leans_too_far > 0 {
-        text += &format!(
-            "  |xy| = {} is {leans_too_far} more than the smaller variance {smaller}\n",
+    let mut reasons = Vec::new();
+    if smaller < 0 {
+        reasons.push(format!("the variance {smaller} is negative"));
+    } else if leans_too_far > 0 {
+        reasons.push(format!(
+            "|xy| = {} is {leans_too_far} more than the smaller variance {smaller}",
             xy.abs()
-        );
+        ));
     }
     if larger > m {
         let more = larger - m;
-        text += &format!("  the larger variance {larger} is {more} more than M = 4096 × {steps}\n");
+        reasons.push(format!(
+            "the larger variance {larger} is {more} more than M = 4096 × {steps}"
+        ));
     }
-    let units = i128::from(UNITS);
-    let enough = (larger + units - 1) / units;
-    text += &match (leans_too_far > 0, enough <= MOST_STEPS) {
-        (true, _) => "  no number of steps is enough\n".to_owned(),
-        (false, true) => format!("  {enough} steps would be enough\n"),
-        (false, false) => format!("  {MOST_STEPS} steps are not enough\n"),
-    };
-    text
+    let enough = shape::fewest_steps(entries);
+    reasons.push(match (leans_too_far > 0, enough <= MOST_STEPS) {
+        (true, _) => "no number of steps is enough".to_owned(),
+        (false, true) => format!("{enough} steps would be enough"),
+        (false, false) => format!("{MOST_STEPS} steps are not enough"),
+    });
+    reasons
 }
 
 #[cfg(test)]
@@ -139,5 +171,22 @@ mod tests {
             sum: 2,
         };
         assert_eq!(worked_back(&lopsided), [Fraction::new(1, 4); 3]);
+    }
+
+    /// By hand: the centre has 1 − 1/n of the weights, so a difference of d moves a pixel by at most d/n.
+    #[test]
+    fn held_differences() {
+        for (sum, centre, held) in [
+            (64, 62, Some(15)), // 16/32 is a half
+            (64, 61, Some(10)), // 10 × 3/64 is less than a half, 11 × 3/64 is more
+            (8, 4, Some(0)),    // 1/2 is a half
+            (9, 5, Some(1)),    // 4/9 is less, 8/9 is more
+            (4, 0, Some(0)),    // no centre at all
+            (4, 4, None),       // nothing but a centre
+        ] {
+            let mut weights = [0; 9];
+            (weights[0], weights[4]) = (sum - centre, centre);
+            assert_eq!(held_difference(&Kernel { weights, sum }), held);
+        }
     }
 }

@@ -1,27 +1,66 @@
-//! Lists of service calls as text: one call a line, read before anything is run, and written by `mixture`.
+//! Lists of service calls as text: one call a line, and written by `mixture` and `soak`.
 
 use crate::numbers::{long_unsigned, unsigned, whole, MOST_SIDE};
+use crate::pictures::Picture;
+use crate::services::Submitted;
 use crate::shape;
 use reference::random::Random;
 use std::fmt;
-use vokhsaot::Shape;
+use std::sync::Arc;
+use vokhsaot::{Shape, STORE_PIXELS};
 
-/// What the help of `replay` says about a list.
+/// What a list is, for the help of the commands that take one.
 macro_rules! list_help {
     () => {
         "\
 A list has one call a line; # begins a comment, empty lines are passed over:
   submit SHAPE steps K size W H pixels P P P ...
   submit SHAPE steps K size W H seed S
-      SHAPE: matrix XX XY YY, or round VARIANCE, or oval LONG SHORT COSINE SINE
+  submit SHAPE steps K file PICTURE
+      SHAPE: matrix XX XY YY, or round VARIANCE, or oval LONG SHORT DEGREES,
+      or oval LONG SHORT COSINE SINE
   tick [N]                     once, or N times (1 to 1000000)
-  collect NUMBER [length N]    into w × h pixels, or into N (at most 1048576)
+  collect NUMBER [length N] [to PICTURE]
+                               into w × h pixels, or into N (at most 1048576)
   withdraw NUMBER
   free
-"
+Before the first call may stand, for a store that is not all zeros:
+  store seed S
+A name with blanks or # stands in double quotes."
     };
 }
 pub(crate) use list_help;
+
+/// What the store holds when the service is opened.
+#[derive(Clone, Copy, Debug, PartialEq, Eq)]
+pub enum Store {
+    Zeros,
+    /// Pixels made from a seed, as a picture's.
+    Seeded(u64),
+}
+
+impl Store {
+    pub fn pixels(self) -> Vec<u16> {
+        match self {
+            Store::Zeros => vec![0; STORE_PIXELS],
+            Store::Seeded(seed) => noise(seed, STORE_PIXELS),
+        }
+    }
+
+    /// The line of a list; none where nothing has to be said.
+    pub fn line(self) -> String {
+        match self {
+            Store::Zeros => String::new(),
+            Store::Seeded(seed) => format!("store seed {seed}\n"),
+        }
+    }
+}
+
+/// Pixels of a seed: the upper 16 bits of each number of splitmix64.
+fn noise(seed: u64, count: usize) -> Vec<u16> {
+    let mut random = Random::new(seed);
+    (0..count).map(|_| (random.bits() >> 48) as u16).collect()
+}
 
 /// The most ticks of one line, so that a slip of the hand does not print for hours.
 const MOST_TICKS: i128 = 1_000_000;
@@ -33,10 +72,11 @@ const MOST_LENT: i128 = (MOST_SIDE as i128) * (MOST_SIDE as i128);
 pub enum Call {
     Submit(Submission),
     Tick(u32),
-    /// Into a picture of this length, or of the job's own.
+    /// Into a picture of this length, or of the job's own; an accepted one goes to a file.
     Collect {
         number: u64,
         length: Option<usize>,
+        to: Option<String>,
     },
     Withdraw(u64),
     Free,
@@ -57,6 +97,8 @@ pub enum Pixels {
     Listed(Vec<u16>),
     /// Width × height pixels: the upper 16 bits of each number of splitmix64 from this seed on.
     Seeded(u64),
+    /// A picture's own, whose sides are the submission's, with the name of its file.
+    File(String, Arc<Picture>),
 }
 
 impl Submission {
@@ -65,16 +107,49 @@ impl Submission {
     pub fn picture(&self) -> Vec<u16> {
         match &self.pixels {
             Pixels::Listed(pixels) => pixels.clone(),
+            Pixels::File(_, picture) => picture.pixels.clone(),
             Pixels::Seeded(seed) => {
                 let sides = [self.width, self.height];
                 let fits = sides.iter().all(|side| *side <= MOST_SIDE);
                 let area = if fits { self.width * self.height } else { 0 };
-                let mut random = Random::new(*seed);
-                (0..area).map(|_| (random.bits() >> 48) as u16).collect()
+                noise(*seed, area as usize)
             }
         }
     }
+
+    /// The submit itself, with the pixels that it lends.
+    pub fn lending<'a>(&self, picture: &'a [u16]) -> Submitted<'a> {
+        Submitted {
+            shape: self.shape,
+            steps: self.steps,
+            width: self.width,
+            height: self.height,
+            picture,
+        }
+    }
+
+    /// One pixel, one step.
+    pub fn small() -> Submission {
+        Submission {
+            shape: Shape::Round(0.5),
+            steps: 1,
+            width: 1,
+            height: 1,
+            pixels: Pixels::Listed(vec![7]),
+        }
+    }
+
+    /// The largest pixel that the submitted picture may have, for the file that its job goes to.
+    pub fn maxval(&self) -> u16 {
+        match &self.pixels {
+            Pixels::File(_, picture) => picture.maxval,
+            _ => u16::MAX,
+        }
+    }
 }
+
+/// Reads the picture of a name.
+pub type Pictures<'a> = &'a dyn Fn(&str) -> Result<Picture, String>;
 
 /// A call and the number of its line, from 1.
 #[derive(Clone, Debug, PartialEq)]
@@ -83,116 +158,275 @@ pub struct Line {
     pub call: Call,
 }
 
-/// All calls of a list, or what the first line that is no call lacks.
-pub fn read(text: &str) -> Result<Vec<Line>, String> {
-    let mut lines = Vec::new();
-    for (place, line) in text.lines().enumerate() {
-        let number = place + 1;
-        let mut words = Words::of(line);
-        if words.is_done() {
+/// A list that is understood.
+#[derive(Debug, PartialEq)]
+pub struct List {
+    pub store: Store,
+    pub lines: Vec<Line>,
+}
+
+/// A list, or what the first line that is none of it lacks.
+pub fn read(text: &str, pictures: Pictures) -> Result<List, String> {
+    let mut reader = Reader::new(pictures);
+    let mut list = List {
+        store: Store::Zeros,
+        lines: Vec::new(),
+    };
+    for line in text.lines() {
+        match reader.line(line)? {
+            None => {}
+            Some(Entry::Store(store)) => list.store = store,
+            Some(Entry::Call(line)) => {
+                list.check_order(&line)?;
+                list.lines.push(line);
+            }
+        }
+    }
+    Ok(list)
+}
+
+impl List {
+    /// All pictures of a list are read before its first call, so none may be one that it writes.
+    fn check_order(&self, line: &Line) -> Result<(), String> {
+        let Some(name) = line.call.picture() else {
+            return Ok(());
+        };
+        let writes =
+            |other: &&Line| matches!(&other.call, Call::Collect { to: Some(to), .. } if to == name);
+        match self.lines.iter().find(writes) {
+            None => Ok(()),
+            Some(other) => Err(format!(
+                "line {}: {name} is written by line {}, and read before the first call; from standard input it would be read in its turn",
+                line.number, other.number
+            )),
+        }
+    }
+}
+
+/// What a line of a list says.
+pub enum Entry {
+    Store(Store),
+    Call(Line),
+}
+
+/// Reads a list line by line.
+pub struct Reader<'a> {
+    pictures: Pictures<'a>,
+    /// Lines so far.
+    number: usize,
+    /// Whether there was anything but comments.
+    has_begun: bool,
+}
+
+impl<'a> Reader<'a> {
+    pub fn new(pictures: Pictures<'a>) -> Reader<'a> {
+        Reader {
+            pictures,
+            number: 0,
+            has_begun: false,
+        }
+    }
+
+    /// The next line; nothing where it is empty.
+    pub fn line(&mut self, line: &str) -> Result<Option<Entry>, String> {
+        self.number += 1;
+        // Some editors put an invisible mark before the first line.
+        let mark = if self.number == 1 { "\u{feff}" } else { "" };
+        let line = line.strip_prefix(mark).unwrap_or(line);
+        let entry = words_of(line).and_then(|words| self.entry(words));
+        entry.map_err(|message| self.fault(&message))
+    }
+
+    /// A line that is no text; what is wrong with it.
+    pub fn unreadable(&mut self, message: &str) -> String {
+        self.number += 1;
+        self.fault(message)
+    }
+
+    fn fault(&self, message: &str) -> String {
+        format!("line {}: {message}", self.number)
+    }
+
+    fn entry(&mut self, words: Vec<String>) -> Result<Option<Entry>, String> {
+        if words.is_empty() {
+            return Ok(None);
+        }
+        let is_first = !std::mem::replace(&mut self.has_begun, true);
+        let mut words = Words {
+            words,
+            next: 0,
+            pictures: self.pictures,
+        };
+        let entry = match words.is_next("store") {
+            true if !is_first => return Err("the store is told before all calls".to_owned()),
+            true => Entry::Store(words.store()?),
+            false => {
+                let (number, call) = (self.number, words.call()?);
+                Entry::Call(Line { number, call })
+            }
+        };
+        match words.rest() {
+            [] => Ok(Some(entry)),
+            [extra, ..] => Err(format!("\"{extra}\" is one word too many")),
+        }
+    }
+}
+
+/// The words of a line up to its comment. Double quotes keep blanks and # in a word.
+fn words_of(line: &str) -> Result<Vec<String>, String> {
+    let mut words = Vec::new();
+    let mut letters = line.chars().peekable();
+    while let Some(letter) = letters.next_if(|letter| *letter != '#') {
+        if letter.is_ascii_whitespace() {
             continue;
         }
-        let call = words.call();
-        let call = call.map_err(|message| format!("line {number}: {message}"))?;
-        lines.push(Line { number, call });
+        let mut word = String::new();
+        if letter == '"' {
+            loop {
+                match letters.next() {
+                    Some('"') => break,
+                    Some(letter) => word.push(letter),
+                    None => return Err("a double quote is missing".to_owned()),
+                }
+            }
+        } else {
+            word.push(letter);
+            while let Some(letter) =
+                letters.next_if(|letter| !letter.is_ascii_whitespace() && *letter != '#')
+            {
+                word.push(letter);
+            }
+        }
+        words.push(word);
     }
-    Ok(lines)
+    Ok(words)
 }
 
 /// The words of a line that are not read yet.
 struct Words<'a> {
-    words: Vec<&'a str>,
+    words: Vec<String>,
     next: usize,
+    pictures: Pictures<'a>,
 }
 
-impl<'a> Words<'a> {
-    fn of(line: &'a str) -> Words<'a> {
-        let call = line.split('#').next().unwrap_or_default();
-        Words {
-            words: call.split_whitespace().collect(),
-            next: 0,
-        }
-    }
-
+impl Words<'_> {
     fn is_done(&self) -> bool {
         self.next == self.words.len()
     }
 
-    fn word(&mut self, what: &str) -> Result<&'a str, String> {
-        let word = self.words.get(self.next).copied();
+    fn word(&mut self, what: &str) -> Result<String, String> {
+        let word = self.words.get(self.next).cloned();
         self.next += 1;
         word.ok_or_else(|| format!("{what} is missing"))
     }
 
-    fn expect(&mut self, expected: &str) -> Result<(), String> {
-        match self.word(&format!("\"{expected}\""))? {
-            word if word == expected => Ok(()),
-            word => Err(format!("\"{expected}\" is expected, not \"{word}\"")),
+    /// A picture's file. Standard input has the list, and standard output the answers.
+    fn file(&mut self) -> Result<String, String> {
+        match self.word("the picture's name")? {
+            name if name == "-" => Err("a picture of a list is a file, not \"-\"".to_owned()),
+            name => Ok(name),
         }
     }
 
-    fn rest(&mut self) -> &[&'a str] {
+    /// Whether the next word is this one; then it is read.
+    fn is_next(&mut self, expected: &str) -> bool {
+        let found = self
+            .words
+            .get(self.next)
+            .is_some_and(|word| word == expected);
+        self.next += usize::from(found);
+        found
+    }
+
+    fn expect(&mut self, expected: &str) -> Result<(), String> {
+        if self.is_next(expected) {
+            return Ok(());
+        }
+        let word = self.word(&format!("\"{expected}\""))?;
+        Err(format!("\"{expected}\" is expected, not \"{word}\""))
+    }
+
+    fn rest(&mut self) -> &[String] {
         let rest = &self.words[self.next..];
         self.next = self.words.len();
         rest
     }
 
+    fn store(&mut self) -> Result<Store, String> {
+        self.expect("seed")?;
+        let seed = long_unsigned(&self.word("the seed")?)?;
+        Ok(Store::Seeded(seed))
+    }
+
     fn call(&mut self) -> Result<Call, String> {
-        let call = match self.word("a call")? {
+        Ok(match self.word("a call")?.as_str() {
             "submit" => Call::Submit(self.submission()?),
             "tick" if self.is_done() => Call::Tick(1),
-            "tick" => Call::Tick(whole(self.word("a number")?, 1..=MOST_TICKS)?),
-            "collect" => Call::Collect {
-                number: long_unsigned(self.word("the job number")?)?,
-                length: self.length()?,
-            },
-            "withdraw" => Call::Withdraw(long_unsigned(self.word("the job number")?)?),
+            "tick" => Call::Tick(whole(&self.word("a number")?, 1..=MOST_TICKS)?),
+            "collect" => self.collect()?,
+            "withdraw" => Call::Withdraw(long_unsigned(&self.word("the job number")?)?),
             "free" => Call::Free,
             word => return Err(format!("\"{word}\" is no call")),
+        })
+    }
+
+    fn collect(&mut self) -> Result<Call, String> {
+        let number = long_unsigned(&self.word("the job number")?)?;
+        let length = match self.is_next("length") {
+            true => Some(whole(&self.word("the length")?, 0..=MOST_LENT)?),
+            false => None,
         };
-        match self.rest() {
-            [] => Ok(call),
-            [extra, ..] => Err(format!("\"{extra}\" is one word too many")),
-        }
+        let to = match self.is_next("to") {
+            true => Some(self.file()?),
+            false => None,
+        };
+        Ok(Call::Collect { number, length, to })
     }
 
-    fn length(&mut self) -> Result<Option<usize>, String> {
-        if self.is_done() {
-            return Ok(None);
-        }
-        self.expect("length")?;
-        whole(self.word("the length")?, 0..=MOST_LENT).map(Some)
-    }
-
+    /// A kind, and its numbers up to "steps".
     fn shape(&mut self) -> Result<Shape, String> {
         let kind = self.word("the shape")?;
-        let count = shape::field_count(kind);
-        let count = count.ok_or_else(|| format!("\"{kind}\" is no shape"))?;
-        let fields: Result<Vec<&str>, String> = (0..count)
-            .map(|_| self.word("a number of the shape"))
-            .collect();
-        shape::from_fields(kind, &fields?)
+        if !shape::is_kind(&kind) {
+            return Err(format!("\"{kind}\" is no shape"));
+        }
+        let mut fields = Vec::new();
+        while !self.is_next("steps") {
+            fields.push(self.word("\"steps\"")?);
+        }
+        let fields: Vec<&str> = fields.iter().map(String::as_str).collect();
+        shape::from_fields(&kind, &fields)
     }
 
     fn submission(&mut self) -> Result<Submission, String> {
         let shape = self.shape()?;
-        self.expect("steps")?;
-        let steps = unsigned(self.word("the step count")?)?;
+        let steps = unsigned(&self.word("the step count")?)?;
+        if self.is_next("file") {
+            let name = self.file()?;
+            let picture = (self.pictures)(&name)?;
+            return Ok(Submission {
+                shape,
+                steps,
+                width: picture.width,
+                height: picture.height,
+                pixels: Pixels::File(name, Arc::new(picture)),
+            });
+        }
+        if self.is_done() {
+            return Err("\"size\" or \"file\" is missing".to_owned());
+        }
         self.expect("size")?;
-        let width = unsigned(self.word("the width")?)?;
-        let height = unsigned(self.word("the height")?)?;
         Ok(Submission {
             shape,
             steps,
-            width,
-            height,
+            width: unsigned(&self.word("the width")?)?,
+            height: unsigned(&self.word("the height")?)?,
             pixels: self.pixels()?,
         })
     }
 
     fn pixels(&mut self) -> Result<Pixels, String> {
-        match self.word("\"pixels\" or \"seed\"")? {
-            "seed" => Ok(Pixels::Seeded(long_unsigned(self.word("the seed")?)?)),
+        match self.word("\"pixels\" or \"seed\"")?.as_str() {
+            "seed" => Ok(Pixels::Seeded(long_unsigned(&self.word("the seed")?)?)),
             "pixels" => {
                 let pixels = self.rest().iter();
                 let pixels = pixels.map(|word| whole(word, 0..=u16::MAX.into()));
@@ -205,7 +439,29 @@ impl<'a> Words<'a> {
     }
 }
 
+/// A name as a word of a list.
+fn quoted(name: &str) -> String {
+    let plain = !name.is_empty()
+        && !name.contains(|c: char| c.is_ascii_whitespace() || c == '#' || c == '"');
+    if plain {
+        name.to_owned()
+    } else {
+        format!("\"{name}\"")
+    }
+}
+
 impl Call {
+    /// The name of the picture that it submits.
+    fn picture(&self) -> Option<&str> {
+        match self {
+            Call::Submit(Submission {
+                pixels: Pixels::File(name, _),
+                ..
+            }) => Some(name),
+            _ => None,
+        }
+    }
+
     /// How many calls of the service its line stands for.
     pub fn times(&self) -> u32 {
         match self {
@@ -222,14 +478,16 @@ impl fmt::Display for Call {
             Call::Submit(submission) => write!(f, "submit {submission}"),
             Call::Tick(1) => write!(f, "tick"),
             Call::Tick(count) => write!(f, "tick {count}"),
-            Call::Collect {
-                number,
-                length: None,
-            } => write!(f, "collect {number}"),
-            Call::Collect {
-                number,
-                length: Some(length),
-            } => write!(f, "collect {number} length {length}"),
+            Call::Collect { number, length, to } => {
+                write!(f, "collect {number}")?;
+                if let Some(length) = length {
+                    write!(f, " length {length}")?;
+                }
+                match to {
+                    Some(name) => write!(f, " to {}", quoted(name)),
+                    None => Ok(()),
+                }
+            }
             Call::Withdraw(number) => write!(f, "withdraw {number}"),
             Call::Free => write!(f, "free"),
         }
@@ -240,11 +498,12 @@ impl fmt::Display for Submission {
     fn fmt(&self, f: &mut fmt::Formatter<'_>) -> fmt::Result {
         let shape = shape::words(self.shape);
         let (steps, width, height) = (self.steps, self.width, self.height);
-        write!(f, "{shape} steps {steps} size {width} {height}")?;
+        write!(f, "{shape} steps {steps}")?;
         match &self.pixels {
-            Pixels::Seeded(seed) => write!(f, " seed {seed}"),
+            Pixels::File(name, _) => write!(f, " file {}", quoted(name)),
+            Pixels::Seeded(seed) => write!(f, " size {width} {height} seed {seed}"),
             Pixels::Listed(pixels) => {
-                write!(f, " pixels")?;
+                write!(f, " size {width} {height} pixels")?;
                 pixels.iter().try_for_each(|pixel| write!(f, " {pixel}"))
             }
         }
@@ -254,6 +513,23 @@ impl fmt::Display for Submission {
 #[cfg(test)]
 mod tests {
     use super::*;
+
+    /// Every picture is one of 2 × 1 pixels.
+    fn read(text: &str) -> Result<Vec<Line>, String> {
+        read_list(text).map(|list| list.lines)
+    }
+
+    fn read_list(text: &str) -> Result<List, String> {
+        super::read(text, &|name| match name {
+            "none.pgm" => Err("none.pgm: not there".to_owned()),
+            _ => Ok(Picture {
+                width: 2,
+                height: 1,
+                maxval: 99,
+                pixels: vec![3, 4],
+            }),
+        })
+    }
 
     #[test]
     fn lines_read_back() {
@@ -265,6 +541,10 @@ mod tests {
             "tick 1000000",
             "collect 1",
             "collect 18446744073709551615 length 0",
+            "collect 1 to after.png",
+            "collect 1 length 7 to \"my picture #1.pgm\"",
+            "submit oval 4 1 0.8 -0.6 steps 8 file \"a b.pgm\"",
+            "submit round 2 steps 8 file before.pgm",
             "withdraw 7",
             "free",
         ] {
@@ -284,23 +564,83 @@ mod tests {
         assert_eq!(read(""), Ok(Vec::new()));
     }
 
+    #[test]
+    fn stores() {
+        assert_eq!(read_list("free").unwrap().store, Store::Zeros);
+        let seeded = read_list("# noise\n\nstore seed 0 # so\nfree").unwrap();
+        assert_eq!((seeded.store, seeded.lines.len()), (Store::Seeded(0), 1));
+        assert_eq!(seeded.store.line(), "store seed 0\n");
+        // As the pixels of a picture, below.
+        let pixels = seeded.store.pixels();
+        assert_eq!(
+            (&pixels[..2], pixels.len()),
+            (&[0xe220, 0x6e78][..], STORE_PIXELS)
+        );
+        assert_eq!(Store::Zeros.pixels(), [0; STORE_PIXELS]);
+    }
+
+    #[test]
+    fn pictures_that_the_list_writes() {
+        let message = "line 3: a.pgm is written by line 2, and read before the first call; from standard input it would be read in its turn";
+        let list = "free\ncollect 1 to a.pgm\nsubmit round 1 steps 1 file a.pgm";
+        assert_eq!(read(list), Err(message.to_owned()));
+        let other =
+            "free\ncollect 1 to b.pgm\nsubmit round 1 steps 1 file a.pgm\ncollect 1 to a.pgm";
+        assert_eq!(read(other).unwrap().len(), 4);
+    }
+
+    #[test]
+    fn a_mark_before_the_first_line() {
+        assert_eq!(read("\u{feff}tick\ntick").unwrap().len(), 2);
+        assert!(read("tick\n\u{feff}tick").is_err());
+    }
+
+    #[test]
+    fn pictures_of_files() {
+        let found = read("submit oval 4 1 90 steps 8 file before.pgm").unwrap();
+        let Call::Submit(submission) = &found[0].call else {
+            panic!();
+        };
+        assert_eq!((submission.width, submission.height), (2, 1));
+        assert_eq!(
+            (submission.picture(), submission.maxval()),
+            (vec![3, 4], 99)
+        );
+        let upright = "submit oval 4 1 0 1 steps 8 file before.pgm";
+        assert_eq!(found[0].call.to_string(), upright);
+    }
+
     /// A line that is no call and what is said about it.
     const FAULTS: &str = "\
 tock|\"tock\" is no call
 Tick|\"Tick\" is no call
 tick 0|\"0\" is not a whole number from 1 to 1000000
 tick 1 2|\"2\" is one word too many
+store seed 1|the store is told before all calls
 free 1|\"1\" is one word too many
 collect|the job number is missing
 collect -1|\"-1\" is not a whole number from 0 to 18446744073709551615
-collect 1 2|\"length\" is expected, not \"2\"
+collect 1 2|\"2\" is one word too many
+collect 1 to|the picture's name is missing
+collect 1 to \"a|a double quote is missing
+collect 1 to -|a picture of a list is a file, not \"-\"
+submit round 1 steps 1 file -|a picture of a list is a file, not \"-\"
+collect 1 to a.pgm length 3|\"length\" is one word too many
 collect 1 length|the length is missing
 withdraw x|\"x\" is not a whole number from 0 to 18446744073709551615
 submit|the shape is missing
 submit square 1|\"square\" is no shape
-submit matrix 1 2|a number of the shape is missing
+submit matrix 1 2|\"steps\" is missing
+submit matrix 1 2 steps 1|XX,XY,YY is wanted, not \"1,2\"
 submit round x steps 1|\"x\" is not a number
-submit round 1 step 1|\"steps\" is expected, not \"step\"
+submit round 1 step 1|\"steps\" is missing
+submit round 1 steps 1 file|the picture's name is missing
+submit round 1 steps 1 file none.pgm|none.pgm: not there
+submit round 1 steps 1 file a.pgm 1|\"1\" is one word too many
+submit round 1 steps 1 files a.pgm|\"size\" is expected, not \"files\"
+submit round 1 steps 1|\"size\" or \"file\" is missing
+collect 1 to a.pgm 7|\"7\" is one word too many
+tick\u{a0}3|\"tick\u{a0}3\" is no call
 submit round 1 steps 1 size 1|the height is missing
 submit round 1 steps 1 size 1 1|\"pixels\" or \"seed\" is missing
 submit round 1 steps 1 size 1 1 pixels 65536|\"65536\" is not a whole number from 0 to 65535
@@ -313,6 +653,26 @@ submit round 1 steps 1 size 1 1 seed 1 2|\"2\" is one word too many
             let (line, message) = fault.split_once('|').unwrap();
             let expected = format!("line 2: {message}");
             assert_eq!(read(&format!("free\n{line}")), Err(expected), "{line}");
+        }
+        for (line, message) in [
+            ("store", "\"seed\" is missing"),
+            ("store 3", "\"seed\" is expected, not \"3\""),
+            (
+                "store seed x",
+                "\"x\" is not a whole number from 0 to 18446744073709551615",
+            ),
+            ("store seed 1 2", "\"2\" is one word too many"),
+            (
+                "store seed 1\nstore seed 1",
+                "the store is told before all calls",
+            ),
+        ] {
+            let number = line.lines().count();
+            assert_eq!(
+                read(line),
+                Err(format!("line {number}: {message}")),
+                "{line}"
+            );
         }
     }
 

@@ -1,89 +1,174 @@
-//! `mixture`: random lists of calls for `replay`, wrong calls included. A service follows the list while it is made, so
-//! that jobs are collected under the numbers they got and mostly when they are finished.
+//! `mixture`: random lists of calls for `replay`, wrong calls included. The independent service follows the list while it
+//! is made, so that jobs are collected under the numbers they got and mostly when they are finished.
 
-use crate::args::{Arguments, Syntax};
-use crate::error::Failure;
+use crate::error::{Failure, Outcome};
 use crate::files;
 use crate::list::{Call, Pixels, Submission};
+use crate::model::Model;
 use crate::numbers::long_unsigned;
 use crate::progress::Progress;
-use crate::session::Session;
 use crate::shape::UNITS;
 use reference::random::Random;
+use reference::service::Record;
 use vokhsaot::{kernel, Direction, Shape};
 
-pub const SYNTAX: Syntax = Syntax {
-    command: "mixture",
-    summary: "print a random list of service calls for replay",
-    valued: &["seed", "calls", "jobs"],
-    flags: &[],
-    operands: &[],
-    help: "\
-Usage: vokhsaot mixture --seed S --calls N [--jobs M]
-
-Prints a list of N lines with calls for vokhsaot replay, wrong calls included:
-the same list for the same numbers. At most M jobs are accepted in it.
-
+/// Print a random list of service calls for replay
+#[derive(clap::Args)]
+#[command(
+    before_help = "\
+Prints a list of N lines with calls for vokhsaot replay, wrong calls included: the
+same list for the same numbers.",
+    after_help = "\
 Examples:
   $ vokhsaot mixture --seed 6 --calls 5
-  $ vokhsaot mixture --seed 2 --calls 200 | vokhsaot replay - | tail -n 2
-",
-};
-
-pub fn command(arguments: &Arguments) -> Result<(), Failure> {
-    let seed = arguments.needed("seed", long_unsigned)?;
-    let calls = arguments.needed("calls", long_unsigned)?;
-    let most_jobs = arguments.optional("jobs", long_unsigned)?;
-    let mut mixture = Mixture::new(seed, most_jobs.unwrap_or(u64::MAX));
-    let mut text = format!("# vokhsaot mixture --seed {seed} --calls {calls}");
-    if let Some(jobs) = most_jobs {
-        text += &format!(" --jobs {jobs}");
-    }
-    text.push('\n');
-    let mut progress = Progress::new("line", calls);
-    for _ in 0..calls {
-        let call = mixture.call();
-        for _ in 0..call.times() {
-            // A refusal is what some calls are for.
-            let _ = mixture.session.call(&call);
-        }
-        text += &format!("{call}\n");
-        progress.advance();
-    }
-    drop(progress);
-    files::print(text.as_bytes())
+  $ vokhsaot mixture --seed 2 --calls 200 | vokhsaot replay --quiet"
+)]
+pub struct Options {
+    /// The seed that names the list
+    #[arg(long, value_name = "S", value_parser = long_unsigned, allow_hyphen_values = true)]
+    seed: u64,
+    /// The number of lines
+    #[arg(long, value_name = "N", value_parser = long_unsigned, allow_hyphen_values = true)]
+    calls: u64,
+    /// The most jobs that are accepted in it
+    #[arg(long, value_name = "M", value_parser = long_unsigned, allow_hyphen_values = true)]
+    jobs: Option<u64>,
 }
 
-/// A list in the making.
-struct Mixture {
+pub fn command(options: &Options) -> Result<Outcome, Failure> {
+    let Options { seed, calls, jobs } = *options;
+    let mut mixture = Mixture::new(seed, jobs.unwrap_or(u64::MAX));
+    let mut model = Model::new();
+    let mut head = format!("# vokhsaot mixture --seed {seed} --calls {calls}");
+    if let Some(jobs) = jobs {
+        head += &format!(" --jobs {jobs}");
+    }
+    files::print(format!("{head}\n").as_bytes())?;
+    let mut progress = Progress::new("line", calls);
+    for _ in 0..calls {
+        let call = mixture.call(model.record());
+        for _ in 0..call.times() {
+            follow(&mut model, &call);
+        }
+        files::print(format!("{call}\n").as_bytes())?;
+        progress.advance();
+    }
+    Ok(Outcome::Good)
+}
+
+/// Does a call, whether it is refused or not; the number that a submit gives.
+pub fn follow(model: &mut Model, call: &Call) -> Option<u64> {
+    match call {
+        Call::Submit(submission) => {
+            let picture = submission.picture();
+            return model.submit(submission.lending(&picture)).ok();
+        }
+        Call::Tick(_) => _ = model.tick(),
+        Call::Collect { number, length, .. } => {
+            let own = held(model.record(), *number).map_or(0, |job| job.pixels);
+            _ = model.collect(*number, &mut vec![0; length.unwrap_or(own)]);
+        }
+        Call::Withdraw(number) => _ = model.withdraw(*number),
+        Call::Free => {}
+    }
+    None
+}
+
+/// A job that a service holds.
+struct Held {
+    number: u64,
+    is_finished: bool,
+    pixels: usize,
+}
+
+/// The jobs held, by their numbers.
+fn all_held(record: &Record) -> Vec<Held> {
+    let filled = record.slots.iter().filter(|slot| slot.number != 0);
+    let mut held: Vec<Held> = filled
+        .map(|slot| Held {
+            number: slot.number,
+            is_finished: slot.steps_left == 0,
+            pixels: slot.width as usize * slot.height as usize,
+        })
+        .collect();
+    held.sort_by_key(|job| job.number);
+    held
+}
+
+fn held(record: &Record, number: u64) -> Option<Held> {
+    all_held(record)
+        .into_iter()
+        .find(|job| job.number == number)
+}
+
+/// How often each kind of call comes: submit, tick, collect, withdraw, free.
+type Appetite = [u64; 5];
+
+/// Submits outnumber what collects and withdraws take, so that the service is full now and then.
+const USUAL: Appetite = [8, 7, 3, 1, 1];
+/// So many lines of a varied mixture have one appetite.
+const PHASE: u64 = 64;
+
+/// Lists in the making.
+pub struct Mixture {
     random: Random,
-    session: Session,
     most_jobs: u64,
+    appetite: Appetite,
+    /// Whether the appetite changes, so that the service is empty, full, busy and done in turn.
+    is_varied: bool,
+    lines: u64,
 }
 
 impl Mixture {
-    fn new(seed: u64, most_jobs: u64) -> Mixture {
+    pub fn new(seed: u64, most_jobs: u64) -> Mixture {
         Mixture {
             random: Random::new(seed),
-            session: Session::new(),
             most_jobs,
+            appetite: USUAL,
+            is_varied: false,
+            lines: 0,
         }
     }
 
-    /// The next call. Submits outnumber what collects and withdraws take, so that the service is full now and then.
-    fn call(&mut self) -> Call {
-        match self.random.below(20) {
-            0..=7 => self.submit(),
-            8..=14 => Call::Tick(self.random.pick(&[1, 1, 1, 2, 5, 12])),
-            15..=17 => self.collect(),
-            18 => Call::Withdraw(self.some_number()),
+    /// One for long runs.
+    pub fn varied(seed: u64) -> Mixture {
+        Mixture {
+            is_varied: true,
+            ..Mixture::new(seed, u64::MAX)
+        }
+    }
+
+    /// The next call, for a service in this state.
+    pub fn call(&mut self, record: &Record) -> Call {
+        if self.is_varied && self.lines.is_multiple_of(PHASE) {
+            self.appetite = [
+                [1, 4, 8, 12],
+                [2, 7, 7, 20],
+                [1, 3, 3, 8],
+                [0, 1, 1, 4],
+                [1; 4],
+            ]
+            .map(|choices| self.random.pick(&choices));
+        }
+        self.lines += 1;
+        let mut choice = self.random.below(self.appetite.iter().sum());
+        let kind = self.appetite.iter().position(|share| {
+            let taken = choice < *share;
+            choice = choice.saturating_sub(*share);
+            taken
+        });
+        match kind {
+            Some(0) => self.submit(record),
+            Some(1) => Call::Tick(self.random.pick(&[1, 1, 1, 2, 5, 12])),
+            Some(2) => self.collect(record),
+            Some(3) => Call::Withdraw(self.some_number(record)),
             _ => Call::Free,
         }
     }
 
-    fn submit(&mut self) -> Call {
+    fn submit(&mut self, record: &Record) -> Call {
         let mut submission = self.good_submission();
-        if self.session.accepted() >= self.most_jobs || self.random.once_in(5) {
+        if record.last_number >= self.most_jobs || self.random.once_in(5) {
             self.spoil(&mut submission);
         }
         Call::Submit(submission)
@@ -140,29 +225,33 @@ impl Mixture {
         }
     }
 
-    fn collect(&mut self) -> Call {
-        let held = self.session.held().iter();
-        let finished = held.filter(|(_, job)| job.finished.is_some());
-        let finished: Vec<u64> = finished.map(|(number, _)| *number).collect();
+    fn collect(&mut self, record: &Record) -> Call {
+        let held = all_held(record);
+        let finished = held.iter().filter(|job| job.is_finished);
+        let finished: Vec<u64> = finished.map(|job| job.number).collect();
         let number = match self.random.below(4) {
-            0 => self.some_number(),
-            _ if finished.is_empty() => self.some_number(),
+            0 => self.some_number(record),
+            _ if finished.is_empty() => self.some_number(record),
             _ => self.random.pick(&finished),
         };
         let length = self.random.once_in(8).then(|| {
-            let job = self.session.held().get(&number);
-            job.map_or(0, |job| job.picture.len()) + 1
+            let job = held.iter().find(|job| job.number == number);
+            job.map_or(0, |job| job.pixels) + 1
         });
-        Call::Collect { number, length }
+        Call::Collect {
+            number,
+            length,
+            to: None,
+        }
     }
 
     /// The number of a job, mostly of one that is held; at times one that no job has.
-    fn some_number(&mut self) -> u64 {
-        let held: Vec<u64> = self.session.held().keys().copied().collect();
-        let accepted = self.session.accepted();
+    fn some_number(&mut self, record: &Record) -> u64 {
+        let held: Vec<u64> = all_held(record).iter().map(|job| job.number).collect();
+        let accepted = record.last_number;
         match self.random.below(6) {
-            0 => self.random.pick(&[0, accepted + 1, u64::MAX]),
-            1 => self.random.below(accepted + 1),
+            0 => self.random.pick(&[0, accepted.saturating_add(1), u64::MAX]),
+            1 => self.random.below(accepted.saturating_add(1)),
             _ if held.is_empty() => accepted,
             _ => self.random.pick(&held),
         }

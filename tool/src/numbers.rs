@@ -38,6 +38,14 @@ pub fn float(text: &str) -> Result<f64, String> {
         .map_err(|_| format!("\"{text}\" is not a number"))
 }
 
+/// So many of something.
+pub fn counted(count: u64, what: &str) -> String {
+    match count {
+        1 => format!("1 {what}"),
+        _ => format!("{count} {what}s"),
+    }
+}
+
 /// A fraction in lowest terms with a positive denominator.
 #[derive(Clone, Copy, Debug, PartialEq, Eq)]
 pub struct Fraction {
@@ -115,6 +123,12 @@ mod tests {
         }
         // More digits than 128 bits hold.
         assert!(long_unsigned(&"9".repeat(60)).is_err());
+    }
+
+    #[test]
+    fn one_and_several() {
+        let texts = [0, 1, 2].map(|count| counted(count, "job"));
+        assert_eq!(texts, ["0 jobs", "1 job", "2 jobs"]);
     }
 
     #[test]

@@ -2,57 +2,45 @@
 //!
 //! As netpbm reads them: a comment stands for the line end that closes it, so one right after a raw picture's maxval is
 //! also the single whitespace byte before the pixels, while after a blank the pixels begin at once.
+//!
+//! A file is read as it comes. What its sides claim is checked before its pixels are read, and whatever may be of any
+//! length has a most here, so that an input without an end is no work without an end.
 
+use crate::pictures::{check_end, check_sides, next_byte, words_of, Picture, Place};
 use std::fmt;
+use std::io::{BufRead, Read};
 
-/// A picture of `width` × `height` pixels by rows, none above `maxval`.
-#[derive(Clone, Debug, PartialEq, Eq)]
-pub struct Picture {
-    pub width: u32,
-    pub height: u32,
-    pub maxval: u16,
-    pub pixels: Vec<u16>,
-}
+/// The longest header, comments included: far more than any tool writes.
+const MOST_HEADER: u64 = 1 << 16;
+/// The most bytes of plain pixels and their comments: 16 for each pixel of the largest picture.
+const MOST_PLAIN: u64 = 1 << 24;
 
 /// Reads a PGM file that holds one picture and nothing else.
-pub fn read(bytes: &[u8]) -> Result<Picture, String> {
-    let plain = match bytes {
-        [b'P', b'2', ..] => true,
-        [b'P', b'5', ..] => false,
-        [b'P', kind @ (b'1' | b'3' | b'4' | b'6' | b'7'), ..] => {
-            let kind = char::from(*kind);
-            return Err(format!(
-                "this is P{kind}: of the PNM files only P2 and P5 are read"
-            ));
-        }
-        _ => return Err("this is no PGM file: it does not begin with P2 or P5".to_owned()),
-    };
-    let mut scan = Scan { rest: &bytes[2..] };
-    scan.check_separated(format_args!("P{}", if plain { 2 } else { 5 }))?;
+pub fn read(input: &mut impl BufRead) -> Result<Picture, String> {
+    let mut scan = Scan::new(input, MOST_HEADER, "the header");
+    let plain = scan.magic()?;
     let width = scan.side("width")?;
     let height = scan.side("height")?;
+    check_sides(width, height)?;
     let maxval = scan.maxval()?;
     let mut picture = Picture {
         width,
         height,
         maxval,
-        pixels: Vec::new(),
+        pixels: Vec::with_capacity((width * height) as usize),
     };
     if plain {
-        picture.read_plain(&mut scan)?;
+        picture.read_plain(Scan::new(input, MOST_PLAIN, "the plain picture"))?;
     } else {
-        picture.read_raw(&mut scan)?;
+        scan.delimiter()?;
+        picture.read_raw(input)?;
     }
-    match scan.rest.len() {
-        0 => Ok(picture),
-        extra => Err(format!(
-            "the file goes on after the picture (bytes: {extra})"
-        )),
-    }
+    check_end(input)?;
+    Ok(picture)
 }
 
 impl Picture {
-    /// The number of pixels that the sides claim; below 2^64.
+    /// The number of pixels that the sides claim.
     fn area(&self) -> u64 {
         u64::from(self.width) * u64::from(self.height)
     }
@@ -73,23 +61,21 @@ impl Picture {
                 Ok(())
             }
             _ => Err(format!(
-                "{} is {pixel}, above the maxval {}",
+                "the pixel in {} is {pixel}, above the maxval {}",
                 self.next_place(),
                 self.maxval
             )),
         }
     }
 
+    /// The place of the pixel that is read next.
     fn next_place(&self) -> Place {
-        Place {
-            done: self.pixels.len(),
-            width: self.width as usize,
-        }
+        self.place(self.pixels.len())
     }
 
-    /// Refuses a claim that the bytes cannot hold, before anything is made room for.
-    fn check_length(&self, needed: Option<u64>, there: usize) -> Result<(), String> {
-        if needed.is_some_and(|needed| needed <= there as u64) {
+    /// Says where a file is too short for what its sides claim.
+    fn check_length(&self, needed: u64, there: u64) -> Result<(), String> {
+        if needed <= there {
             return Ok(());
         }
         Err(format!(
@@ -98,13 +84,12 @@ impl Picture {
         ))
     }
 
-    fn read_raw(&mut self, scan: &mut Scan<'_>) -> Result<(), String> {
-        scan.delimiter();
+    fn read_raw(&mut self, input: &mut impl BufRead) -> Result<(), String> {
         let size = self.bytes_per_pixel();
-        let needed = self.area().checked_mul(size as u64);
-        self.check_length(needed, scan.rest.len())?;
-        let (raster, extra) = scan.rest.split_at(self.area() as usize * size);
-        scan.rest = extra;
+        let needed = self.area() * size as u64;
+        let mut raster = Vec::with_capacity(needed as usize);
+        let found = input.take(needed).read_to_end(&mut raster);
+        self.check_length(needed, found.map_err(words_of)? as u64)?;
         for bytes in raster.chunks_exact(size) {
             self.push(
                 bytes
@@ -115,22 +100,25 @@ impl Picture {
         Ok(())
     }
 
-    fn read_plain(&mut self, scan: &mut Scan<'_>) -> Result<(), String> {
-        // A blank and a digit for each pixel at least.
-        self.check_length(self.area().checked_mul(2), scan.rest.len())?;
+    fn read_plain(&mut self, mut scan: Scan<'_, impl BufRead>) -> Result<(), String> {
         for _ in 0..self.area() {
+            scan.skip_space()?;
+            if scan.peek()?.is_none() {
+                // A blank and a digit for each pixel at least.
+                self.check_length(2 * self.area(), scan.taken)?;
+            }
             let place = self.next_place();
-            self.push(scan.number(format_args!("{place}"))?)?;
+            self.push(scan.number(format_args!("the pixel in {place}"))?)?;
         }
-        scan.skip_space();
-        Ok(())
+        scan.skip_space()
     }
 
     /// The picture as a P5 file.
-    pub fn written(&self) -> Vec<u8> {
+    pub fn pgm(&self) -> Vec<u8> {
         let header = format!("P5\n{} {}\n{}\n", self.width, self.height, self.maxval);
         let mut bytes = header.into_bytes();
         let unused = 2 - self.bytes_per_pixel();
+        bytes.reserve(self.pixels.len() * self.bytes_per_pixel());
         for pixel in &self.pixels {
             bytes.extend_from_slice(&pixel.to_be_bytes()[unused..]);
         }
@@ -138,84 +126,123 @@ impl Picture {
     }
 }
 
-/// The place of a pixel after so many others, put in words only where it is needed.
-struct Place {
-    done: usize,
-    width: usize,
-}
-
-impl fmt::Display for Place {
-    fn fmt(&self, f: &mut fmt::Formatter<'_>) -> fmt::Result {
-        let (column, row) = (self.done % self.width, self.done / self.width);
-        write!(f, "the pixel in column {column}, row {row}")
-    }
-}
-
-/// What is left of a file.
-struct Scan<'a> {
-    rest: &'a [u8],
+/// A file from where it is read on, up to a most of bytes.
+struct Scan<'a, R> {
+    input: &'a mut R,
+    taken: u64,
+    most: u64,
+    /// What is too long where there are more bytes.
+    what: &'static str,
 }
 
 fn is_space(byte: u8) -> bool {
     matches!(byte, b' ' | b'\t' | b'\n' | b'\r')
 }
 
-impl Scan<'_> {
+impl<'a, R: BufRead> Scan<'a, R> {
+    fn new(input: &'a mut R, most: u64, what: &'static str) -> Scan<'a, R> {
+        Scan {
+            input,
+            taken: 0,
+            most,
+            what,
+        }
+    }
+
+    /// The next byte, which is still to be taken; none at the file's end.
+    fn peek(&mut self) -> Result<Option<u8>, String> {
+        match next_byte(self.input)? {
+            Some(_) if self.taken == self.most => {
+                Err(format!("{} is longer than {} bytes", self.what, self.most))
+            }
+            next => Ok(next),
+        }
+    }
+
+    /// Takes the byte that was peeked at.
+    fn take(&mut self) {
+        self.input.consume(1);
+        self.taken += 1;
+    }
+
+    fn take_next(&mut self) -> Result<Option<u8>, String> {
+        let next = self.peek()?;
+        if next.is_some() {
+            self.take();
+        }
+        Ok(next)
+    }
+
+    /// Whether the picture is plain.
+    fn magic(&mut self) -> Result<bool, String> {
+        let plain = match (self.take_next()?, self.take_next()?) {
+            (Some(b'P'), Some(b'2')) => true,
+            (Some(b'P'), Some(b'5')) => false,
+            (Some(b'P'), Some(kind @ (b'1' | b'3' | b'4' | b'6' | b'7'))) => {
+                let kind = char::from(kind);
+                return Err(format!(
+                    "this is P{kind}: of the PNM files only P2 and P5 are read"
+                ));
+            }
+            _ => return Err("this is no PGM file: it does not begin with P2 or P5".to_owned()),
+        };
+        self.check_separated(format_args!("P{}", if plain { 2 } else { 5 }))?;
+        Ok(plain)
+    }
+
     /// Whether a number or the magic ends here, and not in the midst of something else.
-    fn check_separated(&self, what: fmt::Arguments<'_>) -> Result<(), String> {
-        match self.rest.first() {
+    fn check_separated(&mut self, what: fmt::Arguments<'_>) -> Result<(), String> {
+        match self.peek()? {
             None | Some(b'#') => Ok(()),
-            Some(byte) if is_space(*byte) => Ok(()),
+            Some(byte) if is_space(byte) => Ok(()),
             Some(byte) => Err(format!("after {what} stands the byte {byte:#04x}")),
         }
     }
 
     /// Passes a comment up to its line end, and tells whether one was there.
-    fn skip_comment(&mut self) -> bool {
-        let commented = self.rest.first() == Some(&b'#');
-        if commented {
-            let end = self
-                .rest
-                .iter()
-                .position(|byte| matches!(byte, b'\n' | b'\r'));
-            self.rest = &self.rest[end.unwrap_or(self.rest.len())..];
+    fn skip_comment(&mut self) -> Result<bool, String> {
+        let commented = self.peek()? == Some(b'#');
+        while commented && !matches!(self.peek()?, None | Some(b'\n' | b'\r')) {
+            self.take();
         }
-        commented
+        Ok(commented)
     }
 
-    fn skip_space(&mut self) {
+    fn skip_space(&mut self) -> Result<(), String> {
         loop {
-            let commented = self.skip_comment();
-            match self.rest.split_first() {
-                Some((byte, after)) if is_space(*byte) => self.rest = after,
+            let commented = self.skip_comment()?;
+            match self.peek()? {
+                Some(byte) if is_space(byte) => self.take(),
                 _ if commented => {}
-                _ => return,
+                _ => return Ok(()),
             }
         }
     }
 
     /// The one whitespace byte before raw pixels, or the comment that stands for it.
-    fn delimiter(&mut self) {
-        self.skip_comment();
-        self.rest = self.rest.get(1..).unwrap_or_default();
+    fn delimiter(&mut self) -> Result<(), String> {
+        self.skip_comment()?;
+        self.take_next()?;
+        Ok(())
     }
 
     /// A number after whitespace or comments.
     fn number(&mut self, what: fmt::Arguments<'_>) -> Result<u32, String> {
-        self.skip_space();
-        let end = self.rest.iter().position(|byte| !byte.is_ascii_digit());
-        let (digits, after) = self.rest.split_at(end.unwrap_or(self.rest.len()));
-        if digits.is_empty() {
-            return Err(match after.first() {
-                None => format!("the file ends before {what}"),
-                Some(byte) => format!("in place of {what} stands the byte {byte:#04x}"),
-            });
+        self.skip_space()?;
+        match self.peek()? {
+            None => return Err(format!("the file ends before {what}")),
+            Some(byte) if !byte.is_ascii_digit() => {
+                return Err(format!("in place of {what} stands the byte {byte:#04x}"));
+            }
+            Some(_) => {}
         }
-        self.rest = after;
+        let mut value = Some(0u32);
+        while let Some(digit @ b'0'..=b'9') = self.peek()? {
+            self.take();
+            let digit = u32::from(digit - b'0');
+            value = value.and_then(|value| value.checked_mul(10)?.checked_add(digit));
+        }
         self.check_separated(what)?;
-        let value = digits.iter().try_fold(0u32, |value, digit| {
-            value.checked_mul(10)?.checked_add(u32::from(digit - b'0'))
-        });
         value.ok_or_else(|| format!("{what} is too large a number"))
     }
 
@@ -239,6 +266,12 @@ impl Scan<'_> {
 mod tests {
     use super::*;
     use reference::random::Random;
+    use std::io::{self, BufReader};
+
+    fn read(bytes: &[u8]) -> Result<Picture, String> {
+        let mut rest = bytes;
+        super::read(&mut rest)
+    }
 
     fn picture(width: u32, height: u32, maxval: u16, pixels: &[u16]) -> Result<Picture, String> {
         Ok(Picture {
@@ -311,15 +344,84 @@ P2 1 1 255 99999999999|the pixel in column 0, row 0 is too large a number
         }
     }
 
-    /// 2^64 pixels of two bytes are more than a 64-bit count: refused without room being made for them.
+    /// Sides that the library would refuse are told before anything else is read: here nothing else is there.
     #[test]
     fn huge_claims() {
-        for file in [
-            "P5 4294967295 4294967295 65535 AB",
-            "P2 4294967295 4294967295 255 1 2",
-            "P5 4294967295 1 255 AB",
+        for sides in [(u32::MAX, u32::MAX), (1025, 1), (1, 1025), (60000, 7)] {
+            let (width, height) = sides;
+            for file in ["P5", "P2"].map(|magic| format!("{magic} {width} {height} ")) {
+                let message = format!(
+                    "{width} × {height} pixels: refused (6): A width or height is not 1 to 1024."
+                );
+                assert_eq!(read(file.as_bytes()), Err(message), "{file}");
+            }
+        }
+        let largest = [b"P5 1024 1024 255 ".to_vec(), vec![7; 1 << 20]].concat();
+        assert_eq!(read(&largest), picture(1024, 1024, 255, &[7; 1 << 20]));
+    }
+
+    /// Inputs without an end, which a file's beginning leads into.
+    #[test]
+    fn endless_inputs() {
+        for (start, byte, message) in [
+            ("P5", b' ', "the header is longer than 65536 bytes"),
+            ("P2#", b'#', "the header is longer than 65536 bytes"),
+            ("P5 ", b'0', "the header is longer than 65536 bytes"),
+            ("P5 2 1 255#", b'c', "the header is longer than 65536 bytes"),
+            (
+                "P2 2 1 255",
+                b' ',
+                "the plain picture is longer than 16777216 bytes",
+            ),
+            (
+                "P2 2 1 255 1 2#",
+                b'c',
+                "the plain picture is longer than 16777216 bytes",
+            ),
+            (
+                "P2 2 1 255 1 ",
+                b'0',
+                "the plain picture is longer than 16777216 bytes",
+            ),
+            (
+                "P5 2 1 255 ",
+                b'7',
+                "the file goes on after the picture (bytes: 4096 or more)",
+            ),
+            (
+                "P2 2 1 255 1 2 ",
+                b'7',
+                "the file goes on after the picture (bytes: 4096 or more)",
+            ),
         ] {
-            assert!(read(file.as_bytes()).unwrap_err().contains("too short"));
+            let mut input = BufReader::new(start.as_bytes().chain(io::repeat(byte)));
+            assert_eq!(super::read(&mut input), Err(message.to_owned()), "{start}");
+        }
+        // A header of the most bytes is taken, and so is a file that ends there.
+        let filled = |length: usize| format!("P5{:>1$} 1 255\n", 2, length - 9);
+        let header = filled(1 << 16);
+        assert_eq!(header.len(), 1 << 16);
+        assert_eq!(
+            read(&[header.as_bytes(), b"AB"].concat()),
+            picture(2, 1, 255, &[65, 66])
+        );
+        let longer = [filled((1 << 16) + 1).as_bytes(), b"AB"].concat();
+        assert_eq!(
+            read(&longer),
+            Err("the header is longer than 65536 bytes".to_owned())
+        );
+    }
+
+    /// However few bytes come at a time, the picture is the same.
+    #[test]
+    fn bytes_that_come_one_by_one() {
+        for file in ["P5 #c\n2 1\n255#d\nAB", "P2 2 1 255\n65#e\n66\n"] {
+            let mut input = BufReader::with_capacity(1, file.as_bytes());
+            assert_eq!(
+                super::read(&mut input),
+                picture(2, 1, 255, &[65, 66]),
+                "{file:?}"
+            );
         }
     }
 
@@ -334,7 +436,7 @@ P2 1 1 255 99999999999|the pixel in column 0, row 0 is too large a number
                 .map(|_| random.below(u64::from(maxval) + 1) as u16)
                 .collect();
             let good = picture(width, height, maxval, &pixels);
-            let mut file = good.clone().unwrap().written();
+            let mut file = good.clone().unwrap().pgm();
             assert_eq!(read(&file), good);
             for _ in 0..=random.below(3) {
                 let place = random.below(file.len() as u64) as usize;

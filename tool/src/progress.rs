@@ -1,81 +1,306 @@
-//! Progress of long work, for people: only on a terminal, and only after a second.
+//! Progress of long work, for people: only on a terminal, only after a second, and cleared at the end.
 
-use std::io::{self, IsTerminal, Write};
+use indicatif::{HumanCount, HumanDuration};
+use indicatif::{ProgressBar, ProgressDrawTarget, ProgressState, ProgressStyle};
+use std::fmt;
+use std::sync::atomic::{AtomicU64, Ordering};
+use std::sync::Arc;
 use std::time::{Duration, Instant};
 
 /// Work that takes less says nothing.
 const PATIENCE: Duration = Duration::from_secs(1);
-/// Between two lines.
-const INTERVAL: Duration = Duration::from_millis(200);
+/// Between two looks at the count: the bar is not asked more often, since a call of it takes longer than a clock's.
+const INTERVAL: Duration = Duration::from_millis(100);
 
-/// Work of a known number of parts.
-pub struct Progress {
-    what: &'static str,
-    total: u64,
-    done: u64,
-    /// When the next line is due; never where nobody watches.
-    due: Option<Instant>,
-    shown: bool,
-}
+/// Work that is counted in parts. Where nobody watches it costs nothing.
+pub struct Progress(Option<Watched>);
 
 impl Progress {
+    /// Work of so many parts.
     pub fn new(what: &'static str, total: u64) -> Progress {
-        Progress::watched(what, total, io::stderr().is_terminal(), Instant::now())
+        let target = ProgressDrawTarget::stderr();
+        Progress::on(target, PATIENCE, what, End::Parts(total))
     }
 
-    fn watched(what: &'static str, total: u64, watched: bool, now: Instant) -> Progress {
-        Progress {
-            what,
-            total,
-            done: 0,
-            due: watched.then(|| now + PATIENCE),
-            shown: false,
-        }
+    /// Work that goes on for so long.
+    pub fn timed(what: &'static str, duration: Duration) -> Progress {
+        let target = ProgressDrawTarget::stderr();
+        Progress::on(target, PATIENCE, what, End::Time(duration))
+    }
+
+    fn on(target: ProgressDrawTarget, patience: Duration, what: &'static str, end: End) -> Self {
+        // What is no terminal is hidden from the start.
+        let watched = !target.is_hidden();
+        Progress(watched.then(|| Watched::new(target, patience, what, end)))
     }
 
     /// One more part is done.
     pub fn advance(&mut self) {
-        if let Some(line) = self.line(Instant::now()) {
-            // A terminal that went away is no reason to stop.
-            let _ = write!(io::stderr(), "\r{line}");
+        self.advance_by(1);
+    }
+
+    /// So many more parts are done.
+    pub fn advance_by(&mut self, parts: u64) {
+        if let Some(watched) = &mut self.0 {
+            watched.advance(parts, Instant::now());
         }
     }
 
-    /// The line that is due after one more part.
-    fn line(&mut self, now: Instant) -> Option<String> {
-        self.done += 1;
-        self.due.filter(|due| now >= *due)?;
-        self.due = Some(now + INTERVAL);
-        self.shown = true;
-        Some(format!("{} {} of {}", self.what, self.done, self.total))
+    /// Takes the bar away for good, where something else is to be printed before the work is dropped.
+    pub fn finish(&mut self) {
+        self.0 = None;
     }
 }
 
-impl Drop for Progress {
+/// When the work is over.
+#[derive(Clone, Copy)]
+enum End {
+    Parts(u64),
+    Time(Duration),
+}
+
+/// A bar that somebody sees, once it is due.
+struct Watched {
+    /// Hidden at first, but fed from the first part on, so that it knows the rate.
+    bar: ProgressBar,
+    /// Where the bar is shown when it is due.
+    target: Option<ProgressDrawTarget>,
+    end: End,
+    start: Instant,
+    due: Instant,
+    next_look: Instant,
+    count: Arc<AtomicU64>,
+}
+
+impl Watched {
+    fn new(target: ProgressDrawTarget, patience: Duration, what: &'static str, end: End) -> Self {
+        let start = Instant::now();
+        let count = Arc::new(AtomicU64::new(0));
+        let length = match end {
+            End::Parts(total) => total,
+            End::Time(duration) => duration.as_millis() as u64,
+        };
+        let bar = ProgressBar::with_draw_target(Some(length), ProgressDrawTarget::hidden());
+        Watched {
+            bar: bar.with_prefix(what).with_style(style(end, &count)),
+            target: Some(target),
+            end,
+            start,
+            due: start + patience,
+            next_look: start + INTERVAL.min(patience),
+            count,
+        }
+    }
+
+    fn advance(&mut self, parts: u64, now: Instant) {
+        let count = parts + self.count.fetch_add(parts, Ordering::Relaxed);
+        if now < self.next_look {
+            return;
+        }
+        self.next_look = now + INTERVAL;
+        if let Some(target) = self.target.take_if(|_| now >= self.due) {
+            self.bar.set_draw_target(target);
+        }
+        self.bar.set_position(match self.end {
+            End::Parts(_) => count,
+            End::Time(_) => (now - self.start).as_millis() as u64,
+        });
+    }
+}
+
+impl Drop for Watched {
     /// Leaves a clean line behind.
     fn drop(&mut self) {
-        if self.shown {
-            let _ = write!(io::stderr(), "\r\x1b[K");
+        self.bar.finish_and_clear();
+    }
+}
+
+/// The line of a bar, as wide as the terminal.
+fn style(end: End, count: &Arc<AtomicU64>) -> ProgressStyle {
+    let style = match end {
+        End::Parts(_) => {
+            let rate = |state: &ProgressState, line: &mut dyn fmt::Write| {
+                let _ = line.write_str(&rate_text(state.per_sec()));
+            };
+            template("{prefix} {pos} of {len} [{wide_bar}] {rate}, {eta} left")
+                .with_key("rate", rate)
         }
+        End::Time(duration) => {
+            let total = HumanDuration(duration);
+            let total = format!("{total:#}");
+            let number = Arc::clone(count);
+            let counted = move |_: &ProgressState, line: &mut dyn fmt::Write| {
+                let _ = write!(line, "{}", number.load(Ordering::Relaxed));
+            };
+            let number = Arc::clone(count);
+            let rate = move |state: &ProgressState, line: &mut dyn fmt::Write| {
+                let parts = number.load(Ordering::Relaxed) as f64;
+                let _ = line.write_str(&rate_text(parts / state.elapsed().as_secs_f64()));
+            };
+            let whole = move |_: &ProgressState, line: &mut dyn fmt::Write| {
+                let _ = line.write_str(&total);
+            };
+            template("{prefix} {count} [{wide_bar}] {elapsed} of {whole}, {rate}")
+                .with_key("count", counted)
+                .with_key("rate", rate)
+                .with_key("whole", whole)
+        }
+    };
+    style.progress_chars("=> ")
+}
+
+fn template(line: &str) -> ProgressStyle {
+    ProgressStyle::with_template(line).expect("a template that indicatif reads")
+}
+
+/// Parts a second: slow work with a decimal.
+fn rate_text(rate: f64) -> String {
+    if rate < 10.0 {
+        format!("{rate:.1}/s")
+    } else {
+        format!("{}/s", HumanCount(rate as u64))
     }
 }
 
 #[cfg(test)]
 mod tests {
     use super::*;
+    use indicatif::TermLike;
+    use std::io;
+    use std::sync::Mutex;
+    use std::thread::sleep;
+
+    /// A terminal of 60 columns that keeps what is written, with ! where a line is cleared.
+    #[derive(Clone, Debug, Default)]
+    struct Screen(Arc<Mutex<String>>);
+
+    impl Screen {
+        fn written(&self) -> String {
+            self.0.lock().unwrap().clone()
+        }
+
+        fn add(&self, text: &str) -> io::Result<()> {
+            self.0.lock().unwrap().push_str(text);
+            Ok(())
+        }
+
+        fn progress(&self, patience: Duration, end: End) -> Progress {
+            let target = ProgressDrawTarget::term_like(Box::new(self.clone()));
+            Progress::on(target, patience, "job", end)
+        }
+    }
+
+    impl TermLike for Screen {
+        fn width(&self) -> u16 {
+            60
+        }
+        fn move_cursor_up(&self, _: usize) -> io::Result<()> {
+            Ok(())
+        }
+        fn move_cursor_down(&self, _: usize) -> io::Result<()> {
+            Ok(())
+        }
+        fn move_cursor_right(&self, _: usize) -> io::Result<()> {
+            Ok(())
+        }
+        fn move_cursor_left(&self, _: usize) -> io::Result<()> {
+            Ok(())
+        }
+        fn write_line(&self, text: &str) -> io::Result<()> {
+            self.add(text)
+        }
+        fn write_str(&self, text: &str) -> io::Result<()> {
+            self.add(text)
+        }
+        fn clear_line(&self) -> io::Result<()> {
+            self.add("!")
+        }
+        fn flush(&self) -> io::Result<()> {
+            Ok(())
+        }
+    }
 
     #[test]
-    fn lines_after_a_second_and_only_where_watched() {
+    fn nothing_before_it_is_due() {
+        let screen = Screen::default();
+        let mut progress = screen.progress(Duration::from_secs(3600), End::Parts(9));
+        for _ in 0..3 {
+            progress.advance();
+            sleep(INTERVAL);
+        }
+        drop(progress);
+        assert_eq!(screen.written(), "");
+    }
+
+    #[test]
+    fn parts_with_their_rate_and_cleared_at_the_end() {
+        let screen = Screen::default();
+        let mut progress = screen.progress(Duration::ZERO, End::Parts(9));
+        progress.advance();
+        sleep(INTERVAL);
+        progress.advance_by(3);
+        let shown = screen.written();
+        let last = shown.rsplit('!').next().unwrap().trim_end().to_owned();
+        assert!(last.starts_with("job 4 of 9 [==="), "{last}");
+        assert!(last.contains("/s, ") && last.ends_with(" left"), "{last}");
+        assert!(last.chars().count() <= 60, "{last}");
+        drop(progress);
+        let after = screen.written()[shown.len()..].to_owned();
+        assert_eq!(after.trim_matches('!'), "", "{after}");
+        assert!(after.starts_with('!'), "{after}");
+    }
+
+    #[test]
+    fn nothing_after_the_finish() {
+        let screen = Screen::default();
+        let mut progress = screen.progress(Duration::ZERO, End::Parts(9));
+        progress.advance();
+        assert!(screen.written().contains("job 1 of 9"));
+        progress.finish();
+        let shown = screen.written();
+        assert!(shown.ends_with('!'), "{shown}");
+        sleep(INTERVAL);
+        progress.advance();
+        drop(progress);
+        assert_eq!(screen.written(), shown);
+    }
+
+    #[test]
+    fn time_with_count_and_rate() {
+        let screen = Screen::default();
+        let mut progress = screen.progress(Duration::ZERO, End::Time(Duration::from_secs(300)));
+        progress.advance_by(1000);
+        sleep(INTERVAL);
+        progress.advance_by(1000);
+        let shown = screen.written();
+        let last = shown.rsplit('!').next().unwrap().trim_end().to_owned();
+        assert!(last.starts_with("job 2000 [>"), "{last}");
+        assert!(
+            last.contains("] 0s of 5m, ") && last.ends_with("/s"),
+            "{last}"
+        );
+    }
+
+    #[test]
+    fn rates_in_whole_numbers_unless_they_are_small() {
+        for (rate, text) in [(0.25, "0.2/s"), (9.96, "10.0/s"), (12345.6, "12,345/s")] {
+            assert_eq!(rate_text(rate), text);
+        }
+    }
+
+    /// Where nobody watches nothing is kept, and where somebody does a part takes well below a microsecond.
+    #[test]
+    fn parts_are_cheap() {
+        let hidden = Progress::on(ProgressDrawTarget::hidden(), PATIENCE, "job", End::Parts(9));
+        assert!(hidden.0.is_none());
+        let screen = Screen::default();
+        let mut progress = screen.progress(PATIENCE, End::Parts(1_000_000));
         let start = Instant::now();
-        let at = |milliseconds| start + Duration::from_millis(milliseconds);
-        let mut progress = Progress::watched("job", 9, true, start);
-        assert_eq!(progress.line(at(999)), None);
-        assert_eq!(progress.line(at(1000)), Some("job 2 of 9".to_owned()));
-        assert_eq!(progress.line(at(1199)), None);
-        assert_eq!(progress.line(at(1200)), Some("job 4 of 9".to_owned()));
-        // Nothing was written that would have to be cleared.
-        progress.shown = false;
-        let mut unwatched = Progress::watched("job", 9, false, start);
-        assert_eq!(unwatched.line(at(5000)), None);
+        for _ in 0..1_000_000 {
+            progress.advance();
+        }
+        let taken = start.elapsed();
+        assert!(taken < Duration::from_secs(1), "{taken:?}");
+        println!("{taken:?} for a million parts");
     }
 }

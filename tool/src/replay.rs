@@ -1,215 +1,195 @@
-//! `replay`: a list of calls on a new service, each with its answer, and every job handed over held to its promises.
+//! `replay`: a list of calls on a new service, every answer judged beside the independent service.
 
-use crate::args::{Arguments, Syntax};
-use crate::error::{refusal_text, Failure};
+use crate::error::{one_line, say, Failure, Outcome};
 use crate::files;
-use crate::list::{self, list_help, Call, Line, Submission};
-use crate::progress::Progress;
-use crate::session::{Answer, Collected, Session};
-use reference::kernel::Kernel as ExactKernel;
-use reference::natural::Natural;
-use reference::smooth::exact_run;
-use vokhsaot::{kernel, run, shown, Error, SLOTS};
+use crate::judge::{answer_text, HandedOver, Judge, Judged, Verdict};
+use crate::lines::{self, Lines};
+use crate::list::{self, list_help, Call, Entry, Line, Reader, Store};
+use crate::pictures::Picture;
+use crate::rules::Difference;
+use crate::services::{proved, Opening};
+use std::ffi::OsString;
+use std::io::{self, IsTerminal};
 
-pub const SYNTAX: Syntax = Syntax {
-    command: "replay",
-    summary: "run a list of service calls and check what it hands over",
-    valued: &[],
-    flags: &[],
-    operands: &["LIST"],
-    help: concat!(
-        "\
-Usage: vokhsaot replay LIST
+/// Run a list of service calls and judge every answer
+#[derive(clap::Args)]
+#[command(
+    before_help = concat!("\
+Runs a list of calls on a newly opened service and prints each answer with the
+number of free buffers after it. Beside it runs an independent service: answers,
+free counts, the record, the store and the pictures handed over are compared, and
+the promises are checked on the list itself. A difference is written in capitals
+with the sentence that is broken. The last line is the verdict; the exit status is
+0 only where it is good. Refused calls are no differences where they are due. A
+list from standard input is answered line by line.
 
-Runs a list of calls (- is standard input) on a newly opened service and prints
-each answer with the number of free buffers. Then, for each job collected: does
-it equal its lone run, how far is it from the exact run at most (units, beside
-k/2), and by which tick after its submit was it finished (beside 8 × k). A
-promise that is broken gives exit status 1; refused calls of a list do not.
-
-",
-        list_help!(),
-        "
+", list_help!()),
+    after_help = "\
 Examples:
   $ vokhsaot replay two-jobs.list
-  $ vokhsaot mixture --seed 2 --calls 200 | vokhsaot replay - | tail -n 2
-"
-    ),
-};
+  $ vokhsaot mixture --seed 2 --calls 200 | vokhsaot replay --quiet"
+)]
+pub struct Options {
+    /// The list; - is standard input
+    #[arg(default_value = "-")]
+    list: OsString,
+    /// Print the verdict alone
+    #[arg(short, long)]
+    quiet: bool,
+}
 
-pub fn command(arguments: &Arguments) -> Result<(), Failure> {
-    let lines = files::read_text(arguments.operand(0), list::read)?;
-    let mut session = Session::new();
-    let mut text = String::new();
-    let mut progress = Progress::new("line", lines.len() as u64);
-    for line in &lines {
-        text += &answers(&mut session, line);
-        progress.advance();
+pub fn command(options: &Options) -> Result<Outcome, Failure> {
+    on(options, &proved)
+}
+
+/// The same for any service.
+pub fn on(options: &Options, opening: Opening) -> Result<Outcome, Failure> {
+    let mut replay = Replay {
+        opening,
+        judge: None,
+        first: None,
+        quiet: options.quiet,
+    };
+    let pictures =
+        |name: &str| files::read_picture(name.as_ref()).map_err(|error| error.to_string());
+    let fault = |message: String| lines::fault(&options.list, message);
+    match lines::of(&options.list)? {
+        // A file is understood as a whole before the first call.
+        Lines::All(text) => {
+            let list = list::read(&text, &pictures).map_err(fault)?;
+            replay.open(list.store)?;
+            list.lines.iter().try_for_each(|line| replay.line(line))?;
+        }
+        Lines::Each(lines) => {
+            let is_typed = files::is_standard(&options.list) && io::stdin().is_terminal();
+            let mut reader = Reader::new(&pictures);
+            for text in lines {
+                let entry = match text {
+                    Ok(text) => reader.line(&text),
+                    Err(message) => Err(reader.unreadable(&message)),
+                };
+                match entry.map_err(fault) {
+                    // Who types calls may make a slip.
+                    Err(failure) if is_typed => say(&failure.to_string()),
+                    Err(failure) => return Err(failure),
+                    Ok(None) => {}
+                    Ok(Some(Entry::Store(store))) => replay.open(store)?,
+                    Ok(Some(Entry::Call(line))) => replay.line(&line)?,
+                }
+            }
+        }
     }
-    drop(progress);
-    let mut broken = 0;
-    let mut progress = Progress::new("job", session.collected().len() as u64);
-    for (number, collected) in session.collected() {
-        let verdict = Verdict::on(collected)?;
-        text += &format!("job {number}: {}\n", verdict.text());
-        broken += u32::from(!verdict.is_kept());
-        progress.advance();
+    replay.finish()
+}
+
+/// A list in progress.
+struct Replay<'a> {
+    opening: Opening<'a>,
+    /// None until the store is known.
+    judge: Option<Judge<'a>>,
+    first: Option<String>,
+    quiet: bool,
+}
+
+impl<'a> Replay<'a> {
+    fn open(&mut self, store: Store) -> Result<(), Failure> {
+        let (judge, differences) = Judge::new(self.opening, store);
+        self.judge = Some(judge);
+        self.tell("the opening", &differences)
     }
-    drop(progress);
-    files::print(text.as_bytes())?;
-    match broken {
-        0 => Ok(()),
-        _ => Err(Failure::Fault(format!("promises broken, jobs: {broken}"))),
+
+    /// The service, opened over zeros where nothing was said of its store.
+    fn judge(&mut self) -> Result<&mut Judge<'a>, Failure> {
+        if self.judge.is_none() {
+            self.open(Store::Zeros)?;
+        }
+        Ok(self.judge.as_mut().expect("just opened"))
+    }
+
+    /// Does the calls of a line, each with its answer.
+    fn line(&mut self, line: &Line) -> Result<(), Failure> {
+        for _ in 0..line.call.times() {
+            let judge = self.judge()?;
+            let judged = judge.call(&line.call);
+            let place = format!("call {}, line {}", judge.counts().calls, line.number);
+            self.print(&answer_line(&place, &line.call, &judged))?;
+            if let Some(job) = &judged.handed_over {
+                let handed = self.hand_over(&line.call, job);
+                handed.map_err(|failure| failure.in_line(line.number))?;
+            }
+            self.tell(&place, &judged.differences)?;
+        }
+        Ok(())
+    }
+
+    /// What became of a job, and its picture's file.
+    fn hand_over(&mut self, call: &Call, job: &HandedOver) -> Result<(), Failure> {
+        if let Some(handed) = &job.handed {
+            self.print(&format!("job {}: {}\n", job.number, handed.text()))?;
+        }
+        match call {
+            Call::Collect { to: Some(name), .. } => {
+                files::write_picture(name.as_ref(), &picture_of(job))
+            }
+            _ => Ok(()),
+        }
+    }
+
+    fn tell(&mut self, place: &str, differences: &[Difference]) -> Result<(), Failure> {
+        for difference in differences {
+            self.first.get_or_insert_with(|| place.to_owned());
+            self.print(&format!("{place}: {difference}\n"))?;
+        }
+        Ok(())
+    }
+
+    fn print(&self, text: &str) -> Result<(), Failure> {
+        match self.quiet {
+            true => Ok(()),
+            false => files::print(text.as_bytes()),
+        }
+    }
+
+    fn finish(mut self) -> Result<Outcome, Failure> {
+        let judge = self.judge()?;
+        let (counts, longest) = (judge.counts(), judge.longest_wait());
+        let verdict = Verdict {
+            counts,
+            longest,
+            first: self.first,
+        };
+        files::print(format!("{}\n", verdict.text()).as_bytes())?;
+        Ok(Outcome::good_if(verdict.is_good()))
     }
 }
 
-/// Does the calls of a line: a line of text for each, with the free count that holds after it.
-fn answers(session: &mut Session, line: &Line) -> String {
-    let name = match &line.call {
+/// A call's answer, with the free count that holds after it.
+fn answer_line(place: &str, call: &Call, judged: &Judged) -> String {
+    let name = match call {
         Call::Submit(_) => "submit".to_owned(),
         Call::Tick(_) => "tick".to_owned(),
-        call => call.to_string(),
+        call => one_line(&call.to_string()),
     };
-    let mut text = String::new();
-    for _ in 0..line.call.times() {
-        let answer = match session.call(&line.call) {
-            Ok(Answer::Job(number)) => format!("job {number}"),
-            Ok(Answer::Idle) => "idle".to_owned(),
-            Ok(Answer::Free(count)) => count.to_string(),
-            Err(refusal) => refusal_text(refusal),
-        };
-        let free = match session.free() {
-            Ok(count) => format!("{count} free"),
-            Err(refusal) => refusal_text(refusal),
-        };
-        text += &format!("line {}: {name}: {answer} [{free}]\n", line.number);
-    }
-    text
+    let answer = match judged.answer {
+        Some(answer) => answer_text(answer),
+        None => "NO ANSWER".to_owned(),
+    };
+    let free = match judged.free {
+        Some(Ok(count)) => format!("{count} free"),
+        Some(Err(refusal)) => answer_text(Err(refusal)),
+        None => "NO ANSWER".to_owned(),
+    };
+    format!("{place}: {name}: {answer} [{free}]\n")
 }
 
-/// What became of a job that was handed over.
-#[derive(Debug, PartialEq)]
-struct Verdict {
-    equals_lone_run: bool,
-    /// The largest distance from the exact run in units, for printing.
-    distance: f64,
-    /// Whether it is at most k/2, decided in whole numbers.
-    is_near: bool,
-    finished: Option<u64>,
-    steps: u32,
-}
-
-/// The largest distance of a pixel from the exact run's, times `scale`.
-fn farthest(pixels: &[u16], exact: &[Natural], scale: &Natural) -> Natural {
-    let distances = pixels.iter().zip(exact).map(|(pixel, whole)| {
-        let pixel = scale.times(u64::from(*pixel));
-        pixel.distance(whole)
-    });
-    distances.max().unwrap_or_default()
-}
-
-impl Verdict {
-    fn on(collected: &Collected) -> Result<Verdict, Error> {
-        let Collected { job, handed_over } = collected;
-        let Submission {
-            shape,
-            steps,
-            width,
-            height,
-            ..
-        } = job.submission;
-        let mut first = job.picture.clone();
-        let mut second = vec![0; first.len()];
-        run(shape, steps, width, height, &mut first, &mut second)?;
-        let found = kernel(shape, steps)?;
-        let exact_kernel = ExactKernel {
-            weights: found.weights,
-            sum: found.sum,
-        };
-        let exact = exact_run(&exact_kernel, &job.picture, width, height, steps);
-        let scale = Natural::power(found.sum, steps);
-        let farthest = farthest(handed_over, &exact, &scale);
-        Ok(Verdict {
-            equals_lone_run: handed_over == shown(steps, &first, &second),
-            distance: farthest.ratio(&scale),
-            is_near: farthest.times(2) <= scale.times(steps.into()),
-            finished: job.finished,
-            steps,
-        })
-    }
-
-    /// The wait of a job that was just submitted: no seat's turn takes more ticks than there are seats.
-    fn most_ticks(&self) -> u64 {
-        SLOTS as u64 * u64::from(self.steps)
-    }
-
-    fn is_in_time(&self) -> bool {
-        self.finished
-            .is_some_and(|ticks| ticks <= self.most_ticks())
-    }
-
-    fn is_kept(&self) -> bool {
-        self.equals_lone_run && self.is_near && self.is_in_time()
-    }
-
-    fn text(&self) -> String {
-        let equal = match self.equals_lone_run {
-            true => "equals its lone run",
-            false => "DIFFERS from its lone run",
-        };
-        let near = if self.is_near { "at most" } else { "MORE than" };
-        let half = f64::from(self.steps) / 2.0;
-        let ticks = match self.finished {
-            Some(ticks) => format!("finished by tick {ticks}"),
-            None => "NOT finished by its ticks".to_owned(),
-        };
-        let in_time = if self.is_in_time() {
-            "at most"
-        } else {
-            "MORE than"
-        };
-        format!(
-            "{equal}; {:.3} from the exact run ({near} {half:.1}); {ticks} ({in_time} {})",
-            self.distance,
-            self.most_ticks()
-        )
-    }
-}
-
-#[cfg(test)]
-mod tests {
-    use super::*;
-    use crate::session::Job;
-
-    /// Document 01's case a as a job, with the exact run worked out by hand: 1600/4 beside the spot, nothing rounded.
-    fn verdict(handed_over: [u16; 9], finished: Option<u64>) -> Verdict {
-        let line = "submit matrix 2048 0 2048 steps 1 size 3 3 pixels 0 0 0 0 1600 0 0 0 0";
-        let Call::Submit(submission) = &list::read(line).unwrap()[0].call else {
-            panic!();
-        };
-        let mut job = Job::new(submission, submission.picture(), 0);
-        job.finished = finished;
-        let handed_over = handed_over.to_vec();
-        Verdict::on(&Collected { job, handed_over }).unwrap()
-    }
-
-    #[test]
-    fn promises_that_are_kept() {
-        let kept = verdict([0, 400, 0, 400, 0, 400, 0, 400, 0], Some(8));
-        assert!(kept.is_kept());
-        let text = "equals its lone run; 0.000 from the exact run (at most 0.5); finished by tick 8 (at most 8)";
-        assert_eq!(kept.text(), text);
-    }
-
-    #[test]
-    fn promises_that_are_broken() {
-        let other = verdict([0, 400, 0, 400, 1, 400, 0, 400, 0], Some(1));
-        assert!(!other.is_kept());
-        let text = "DIFFERS from its lone run; 1.000 from the exact run (MORE than 0.5); finished by tick 1 (at most 8)";
-        assert_eq!(other.text(), text);
-        let late = verdict([0, 400, 0, 400, 0, 400, 0, 400, 0], Some(9));
-        assert!(!late.is_kept() && late.text().ends_with("finished by tick 9 (MORE than 8)"));
-        let never = verdict([0, 400, 0, 400, 0, 400, 0, 400, 0], None);
-        assert!(!never.is_kept() && never.text().contains("NOT finished"));
+/// A job's picture as it was handed over. A wrong pixel may be above what the submitted picture allowed.
+fn picture_of(job: &HandedOver) -> Picture {
+    let submission = &job.job.submission;
+    let largest = job.picture.iter().copied().max().unwrap_or(0);
+    Picture {
+        width: submission.width,
+        height: submission.height,
+        maxval: submission.maxval().max(largest),
+        pixels: job.picture.clone(),
     }
 }

@@ -1,50 +1,135 @@
-//! Shapes as options (`--oval 4,1,30`) and as words of a list (`oval 4 1 0.8 0.6`).
+//! Shapes and step counts as options (`--oval 4,1,30`), and shapes as words of a list (`oval 4 1 30`).
 
-use crate::args::Arguments;
 use crate::error::Failure;
 use crate::numbers::{float, unsigned, whole};
-use vokhsaot::{Direction, Shape};
-
-/// The options that name a shape.
-const KINDS: [&str; 3] = ["matrix", "round", "oval"];
-
-/// The options of a command that takes a shape and a step count.
-pub const OPTIONS: &[&str] = &["matrix", "round", "oval", "steps"];
+use vokhsaot::{covariance, Covariance, Direction, Shape};
 
 /// One square pixel of variance in the units of a covariance.
 pub const UNITS: i32 = 4096;
+/// No run has more steps.
+pub const MOST_STEPS: u32 = 64;
 
-/// What the help of every command with a shape says about it.
-macro_rules! shape_help {
-    () => {
-        "\
-SHAPE is one of:
-  --matrix XX,XY,YY        the covariance, whole numbers in 1/4096 square pixel
-  --round VARIANCE         one variance in square pixels, 0 to 64
-  --oval LONG,SHORT,DEGREES
-  --oval LONG,SHORT,COSINE,SINE
-                           variances along and across a direction; degrees turn
-                           from x (right) towards y (down, with the row number)
-"
-    };
+/// The options of a command that takes a shape.
+#[derive(clap::Args, Clone)]
+pub struct ShapeOptions {
+    /// The covariance, whole numbers in 1/4096 square pixel; exactly one of the three shapes is wanted
+    #[arg(long, value_name = "XX,XY,YY", value_parser = matrix, allow_hyphen_values = true)]
+    matrix: Option<Shape>,
+    /// One variance in square pixels, 0 to 64
+    #[arg(long, value_name = "VARIANCE", value_parser = round, allow_hyphen_values = true)]
+    round: Option<Shape>,
+    /// Variances along and across a direction in degrees, which turn from x (right) towards y (down, with the row number);
+    /// LONG,SHORT,COSINE,SINE is taken too
+    #[arg(long, value_name = "LONG,SHORT,DEGREES", value_parser = oval, allow_hyphen_values = true)]
+    oval: Option<Shape>,
 }
-pub(crate) use shape_help;
 
-/// The shape and the step count that the options name.
-pub fn from_options(arguments: &Arguments) -> Result<(Shape, u32), Failure> {
-    let kind = arguments.one_of(&KINDS)?;
-    let shape = arguments.needed(kind, |text| {
-        let fields: Vec<&str> = text.split(',').collect();
-        match (kind, fields.as_slice()) {
-            ("oval", [long, short, degrees]) => Ok(Shape::Oval {
-                long: float(long)?,
-                short: float(short)?,
-                direction: of_degrees(float(degrees)?),
-            }),
-            _ => from_fields(kind, &fields),
+impl ShapeOptions {
+    /// The shape that is given; where none may be, `None`.
+    pub fn optional(&self, command: &'static str) -> Result<Option<Shape>, Failure> {
+        let given = [self.matrix, self.round, self.oval];
+        let given: Vec<Shape> = given.into_iter().flatten().collect();
+        match given.as_slice() {
+            [] => Ok(None),
+            [only] => Ok(Some(*only)),
+            _ => Err(exactly_one(command)),
         }
-    })?;
-    Ok((shape, arguments.needed("steps", unsigned)?))
+    }
+
+    pub fn needed(&self, command: &'static str) -> Result<Shape, Failure> {
+        self.optional(command)?.ok_or_else(|| exactly_one(command))
+    }
+}
+
+fn exactly_one(command: &'static str) -> Failure {
+    Failure::Usage {
+        command: Some(command),
+        message: "exactly one of --matrix, --round, --oval is wanted".to_owned(),
+    }
+}
+
+/// How many steps are asked for.
+#[derive(Clone, Copy, Debug, PartialEq, Eq)]
+pub enum StepCount {
+    Exactly(u32),
+    /// The fewest with which the shape has a kernel.
+    Auto,
+}
+
+impl StepCount {
+    /// The number of steps for a shape. Where no number gives a kernel, one that the library refuses for that.
+    pub fn of(self, shape: Shape) -> Result<u32, vokhsaot::Error> {
+        match self {
+            StepCount::Exactly(steps) => Ok(steps),
+            StepCount::Auto => Ok(fewest_steps(covariance(shape)?).min(MOST_STEPS)),
+        }
+    }
+}
+
+/// The steps that the larger variance asks for: it is at most 4096 × steps. More than 64 where it asks for more.
+pub fn fewest_steps(entries: Covariance) -> u32 {
+    let larger = entries.xx.max(entries.yy).max(1);
+    (larger as u32).div_ceil(UNITS as u32)
+}
+
+/// A number of steps in a sentence.
+pub fn steps_text(steps: u32) -> String {
+    match steps {
+        1 => "1 step".to_owned(),
+        _ => format!("{steps} steps"),
+    }
+}
+
+/// A step count, or `auto`.
+pub fn step_count(text: &str) -> Result<StepCount, String> {
+    match text {
+        "auto" => Ok(StepCount::Auto),
+        _ => match unsigned(text) {
+            Ok(steps) => Ok(StepCount::Exactly(steps)),
+            Err(_) => Err(format!(
+                "\"{text}\" is no number of steps: 1 to 64, or auto"
+            )),
+        },
+    }
+}
+
+/// The options of a command that takes a shape and a step count.
+#[derive(clap::Args, Clone)]
+pub struct RunOptions {
+    #[command(flatten)]
+    shape: ShapeOptions,
+    /// The number of steps, 1 to 64, or auto: the fewest with which the shape has a kernel
+    #[arg(long, value_name = "K", value_parser = step_count, allow_hyphen_values = true)]
+    steps: StepCount,
+}
+
+impl RunOptions {
+    /// The shape and the step count.
+    pub fn read(&self, command: &'static str) -> Result<(Shape, u32), Failure> {
+        let shape = self.shape.needed(command)?;
+        Ok((shape, self.steps.of(shape)?))
+    }
+
+    /// Whether the number of steps was left to the tool.
+    pub fn is_auto(&self) -> bool {
+        self.steps == StepCount::Auto
+    }
+}
+
+fn matrix(text: &str) -> Result<Shape, String> {
+    from_fields("matrix", &fields(text))
+}
+
+fn round(text: &str) -> Result<Shape, String> {
+    from_fields("round", &fields(text))
+}
+
+fn oval(text: &str) -> Result<Shape, String> {
+    from_fields("oval", &fields(text))
+}
+
+fn fields(text: &str) -> Vec<&str> {
+    text.split(',').collect()
 }
 
 /// A shape of a kind with its numbers as text.
@@ -57,6 +142,11 @@ pub fn from_fields(kind: &str, fields: &[&str]) -> Result<Shape, String> {
             yy: entry(yy)?,
         }),
         ("round", [variance]) => Ok(Shape::Round(float(variance)?)),
+        ("oval", [long, short, degrees]) => Ok(Shape::Oval {
+            long: float(long)?,
+            short: float(short)?,
+            direction: of_degrees(float(degrees)?),
+        }),
         ("oval", [long, short, cosine, sine]) => Ok(Shape::Oval {
             long: float(long)?,
             short: float(short)?,
@@ -66,20 +156,20 @@ pub fn from_fields(kind: &str, fields: &[&str]) -> Result<Shape, String> {
             },
         }),
         _ => Err(format!(
-            "{} are not the numbers of a shape",
+            "{} is wanted, not \"{}\"",
+            match kind {
+                "matrix" => "XX,XY,YY",
+                "round" => "one variance",
+                _ => "LONG,SHORT,DEGREES or LONG,SHORT,COSINE,SINE",
+            },
             fields.join(",")
         )),
     }
 }
 
-/// The numbers that a shape of a list has after its kind.
-pub fn field_count(kind: &str) -> Option<usize> {
-    match kind {
-        "matrix" => Some(3),
-        "round" => Some(1),
-        "oval" => Some(4),
-        _ => None,
-    }
+/// Whether a word of a list names a kind of shape.
+pub fn is_kind(word: &str) -> bool {
+    ["matrix", "round", "oval"].contains(&word)
 }
 
 /// A shape as the words of a list. Rust writes a float so that reading gives the same one again.
@@ -158,7 +248,7 @@ mod tests {
             let fields: Vec<&str> = text.split(' ').collect();
             let shape = from_fields(fields[0], &fields[1..]).unwrap();
             assert_eq!(words(shape), text);
-            assert_eq!(field_count(fields[0]), Some(fields.len() - 1));
+            assert!(is_kind(fields[0]));
         }
         assert!(from_fields("matrix", &["1", "2"]).is_err());
         assert!(from_fields("matrix", &["1", "2", "2147483648"]).is_err());

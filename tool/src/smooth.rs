@@ -1,44 +1,215 @@
-//! `smooth`: a picture in, the picture after k steps out.
+//! `smooth`: a picture in, the picture after k steps out; and warnings where the picture is hardly what was wanted.
 
-use crate::args::{Arguments, Syntax};
-use crate::error::Failure;
+use crate::error::{say, Failure, Outcome};
 use crate::files;
-use crate::pgm::Picture;
-use crate::shape::{self, shape_help};
-use vokhsaot::{run, shown};
+use crate::kernel::{explained, fewest_with_centre, held_difference};
+use crate::shape::{steps_text, RunOptions};
+use std::ffi::OsString;
+use vokhsaot::{kernel, run, shown, Kernel, Shape};
 
-pub const SYNTAX: Syntax = Syntax {
-    command: "smooth",
-    summary: "smooth a PGM picture",
-    valued: shape::OPTIONS,
-    flags: &[],
-    operands: &["INPUT", "OUTPUT"],
-    help: concat!(
-        "\
-Usage: vokhsaot smooth SHAPE --steps K INPUT OUTPUT
+/// Smooth a picture
+#[derive(clap::Args)]
+#[command(
+    before_help = "\
+Smooths a PGM or PNG picture in K steps and writes it with the same maxval. Its
+sides are 1 to 1024. Without names the picture comes from standard input and goes
+to standard output, as with netpbm; so does a file named -.
 
-Smooths a PGM picture in K steps (1 to 64) and writes it with the same maxval.
-The sides are 1 to 1024; - is standard input or standard output.
-
-",
-        shape_help!(),
-        "
+Warns where no pixel changed, where rounding held many (each step rounds to whole
+units, so many steps keep small differences) and where the kernel has no weight at
+its centre. The picture is written all the same, and the exit status is 0.",
+    after_help = "\
 Examples:
-  $ vokhsaot smooth --matrix 2048,0,2048 --steps 1 spot.pgm smooth.pgm
-  $ vokhsaot smooth --oval 4,1,30 --steps 8 - - < horizon.pgm > oval.pgm
-"
-    ),
-};
+  $ vokhsaot smooth --round 0.5 --steps 2 spot.pgm smooth.pgm
+  $ vokhsaot smooth --oval 4,1,30 --steps auto < horizon.pgm > oval.pgm"
+)]
+pub struct Options {
+    #[command(flatten)]
+    run: RunOptions,
+    /// Say nothing but errors: no warnings, and not the steps of auto
+    #[arg(long, short)]
+    quiet: bool,
+    /// The picture to smooth
+    #[arg(default_value = "-")]
+    input: OsString,
+    /// Where the smoothed picture goes; a name that ends in .png makes it PNG
+    #[arg(default_value = "-")]
+    output: OsString,
+}
 
-pub fn command(arguments: &Arguments) -> Result<(), Failure> {
-    let (shape, steps) = shape::from_options(arguments)?;
-    let picture = files::read_picture(arguments.operand(0))?;
+pub fn command(options: &Options) -> Result<Outcome, Failure> {
+    let (shape, steps) = options.run.read("smooth")?;
+    let mut picture = files::read_picture(&options.input)?;
     let mut first = picture.pixels.clone();
     let mut second = vec![0; first.len()];
     let (width, height) = (picture.width, picture.height);
-    run(shape, steps, width, height, &mut first, &mut second)?;
+    run(shape, steps, width, height, &mut first, &mut second)
+        .map_err(|refusal| explained(refusal, shape, steps))?;
     // An average is at most the largest pixel, so the maxval still holds.
-    let pixels = shown(steps, &first, &second).to_vec();
-    let smoothed = Picture { pixels, ..picture };
-    files::write_all(&[(arguments.operand(1), smoothed.written())])
+    let after = shown(steps, &first, &second).to_vec();
+    let before = std::mem::replace(&mut picture.pixels, after);
+    files::write_picture(&options.output, &picture)?;
+    if options.quiet {
+        return Ok(Outcome::Good);
+    }
+    if options.run.is_auto() {
+        say(&format!("{}, the fewest with a kernel", steps_text(steps)));
+    }
+    let seen = Seen {
+        shape,
+        steps,
+        kernel: kernel(shape, steps)?,
+        width: width as usize,
+        maxval: picture.maxval,
+        before: &before,
+        next_to_last: shown(steps - 1, &first, &second),
+        after: &picture.pixels,
+    };
+    for warning in seen.warnings() {
+        say(&format!("warning: {warning}"));
+    }
+    Ok(Outcome::Good)
+}
+
+fn units_text(units: u64) -> String {
+    match units {
+        1 => "1 unit".to_owned(),
+        _ => format!("{units} units"),
+    }
+}
+
+/// Rounding is told where it held at least one of so many pixels that an exact step would change.
+const CONSIDERABLE: usize = 4;
+
+/// A run that is over, as its warnings see it.
+struct Seen<'a> {
+    shape: Shape,
+    steps: u32,
+    kernel: Kernel,
+    width: usize,
+    maxval: u16,
+    before: &'a [u16],
+    /// The picture one step before the last.
+    next_to_last: &'a [u16],
+    after: &'a [u16],
+}
+
+/// What rounding did to the pixels of a picture.
+#[derive(Debug, PartialEq)]
+struct Held {
+    /// Those that an exact step would change: the average is another number.
+    uneven: usize,
+    /// Those of them that the first step rounds back, and that are the same at the end.
+    held: usize,
+}
+
+impl Seen<'_> {
+    fn warnings(&self) -> Vec<String> {
+        let about_pixels = if self.after == self.before {
+            Some(format!("no pixel changed: {}", self.why_unchanged()))
+        } else {
+            self.much_held()
+        };
+        let hollow = (self.kernel.weight(0, 0) == 0).then(|| self.without_centre());
+        about_pixels.into_iter().chain(hollow).collect()
+    }
+
+    /// Why a picture is the same after the run. Where it was the same one step before, each single step keeps it.
+    fn why_unchanged(&self) -> String {
+        let found = self.held();
+        if self.kernel.weight(0, 0) == self.kernel.sum {
+            "the covariance is 0".to_owned()
+        } else if found.uneven == 0 {
+            "each already is the average of itself and its neighbours".to_owned()
+        } else if self.next_to_last != self.before {
+            "the steps changed some, and brought each of them back".to_owned()
+        } else {
+            let count = found.uneven;
+            self.with_rounding(&format!(
+                "rounding held all {count} that an exact step would change"
+            ))
+        }
+    }
+
+    /// A warning where rounding held a considerable part, by differences that this kernel is sure to hold.
+    fn much_held(&self) -> Option<String> {
+        let Held { uneven, held } = self.held();
+        let holds_some = held_difference(&self.kernel).is_some_and(|units| units > 0);
+        (holds_some && CONSIDERABLE * held >= uneven).then(|| {
+            self.with_rounding(&format!(
+                "rounding held {held} of {uneven} pixels that an exact step would change"
+            ))
+        })
+    }
+
+    /// What rounding did, then the differences that it is sure to hold, and what helps.
+    fn with_rounding(&self, what: &str) -> String {
+        let mut text = what.to_owned();
+        if let Some(units) = held_difference(&self.kernel).filter(|units| *units > 0) {
+            let (steps, units) = (steps_text(self.steps), units_text(units));
+            text += &format!("; at {steps} it holds differences up to {units}");
+            text += &self.with_fewer_steps();
+        }
+        match u16::MAX / self.maxval {
+            0 | 1 => text,
+            factor => {
+                let maxval = factor * self.maxval;
+                text + &format!("; more units help: pixels times {factor}, maxval {maxval}")
+            }
+        }
+    }
+
+    /// The same of the fewest steps that can be recommended: those with weight at the centre.
+    fn with_fewer_steps(&self) -> String {
+        let fewer = fewest_with_centre(self.shape).filter(|fewer| *fewer < self.steps);
+        let Some(fewer) = fewer else {
+            return String::new();
+        };
+        match kernel(self.shape, fewer).map(|found| held_difference(&found)) {
+            Ok(Some(units)) => format!(" (at {}: {units})", steps_text(fewer)),
+            _ => String::new(),
+        }
+    }
+
+    /// What a kernel without weight at its centre does, and how many steps have some.
+    fn without_centre(&self) -> String {
+        let enough = match fewest_with_centre(self.shape) {
+            Some(steps) => format!("with {} it has some", steps_text(steps)),
+            None => "no number of steps gives it some".to_owned(),
+        };
+        format!(
+            "the kernel has no weight at its centre: each step takes all of a lone bright pixel to its neighbours, which leaves rings or checkerboards; {enough}"
+        )
+    }
+
+    fn held(&self) -> Held {
+        let sum = self.kernel.sum as i64;
+        let mut found = Held { uneven: 0, held: 0 };
+        let pairs = self.before.iter().zip(self.after).enumerate();
+        for (place, (before, after)) in pairs {
+            let change = self.change(place);
+            // Nearest, halves up: a rise begins at a half, a fall above a half.
+            let rounds_back = (-sum..sum).contains(&(2 * change));
+            found.uneven += usize::from(change != 0);
+            found.held += usize::from(change != 0 && rounds_back && before == after);
+        }
+        found
+    }
+
+    /// What an exact step adds to the pixel at a place, times the sum of the weights.
+    fn change(&self, place: usize) -> i64 {
+        let height = self.before.len() / self.width;
+        let (x, y) = (place % self.width, place / self.width);
+        let columns = [x.saturating_sub(1), x, (x + 1).min(self.width - 1)];
+        let rows = [y.saturating_sub(1), y, (y + 1).min(height - 1)];
+        let pixel = i64::from(self.before[place]);
+        let mut change = 0;
+        for (row, weights) in rows.into_iter().zip(self.kernel.weights.chunks(3)) {
+            for (column, weight) in columns.into_iter().zip(weights) {
+                let other = i64::from(self.before[row * self.width + column]);
+                change += *weight as i64 * (other - pixel);
+            }
+        }
+        change
+    }
 }

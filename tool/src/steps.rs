@@ -2,45 +2,46 @@
 //! there. The library's `run` leaves only its last two steps, so the others are ticks of its service: a tick is one step,
 //! and the store belongs to the caller.
 
-use crate::args::{Arguments, Syntax};
-use crate::error::Failure;
+use crate::error::{Failure, Outcome};
+use crate::exact::near;
 use crate::files;
+use crate::kernel::explained;
 use crate::numbers::unsigned;
-use crate::pgm::Picture;
-use crate::shape::{self, shape_help};
+use crate::pictures::Picture;
+use crate::shape::RunOptions;
+use std::ffi::OsString;
 use std::ops::Range;
-use vokhsaot::{run, shown, Service, Shape, BUFFER_PIXELS, SLOTS};
+use vokhsaot::{run, shown, Service, Shape, BUFFER_PIXELS, SEATS};
 
-pub const SYNTAX: Syntax = Syntax {
-    command: "steps",
-    summary: "print the height of a pixel after each step of a run",
-    valued: &["matrix", "round", "oval", "steps", "at"],
-    flags: &[],
-    operands: &["INPUT"],
-    help: concat!(
-        "\
-Usage: vokhsaot steps SHAPE --steps K --at X,Y INPUT
-
-Prints the height of the pixel at column X and row Y (both from 0) of a PGM
-picture after 0, 1, .. K steps of one run: the kernel is that of K steps for all
-of them. Beside each height stands a bar (the longest for the largest height
+/// Print the height of a pixel after each step of a run
+#[derive(clap::Args)]
+#[command(
+    before_help = "\
+Prints the height of the pixel at column X and row Y (both from 0) of a picture
+after 0, 1, .. K steps of one run: the kernel is that of K steps for all of
+them. Beside each height stands a bar (the longest for the largest height
 printed, none for 0), and a word for the pixel at that step:
   peak      at least as large as each of its up to eight neighbours inside the
             picture: it does not rise in the next step
   hollow    at most as large as each of them: it does not fall
   flat      both
 No word stands where it is neither. A promise that is broken is written in
-capitals and gives exit status 1. - is standard input.
-
-",
-        shape_help!(),
-        "
+capitals and gives exit status 1.",
+    after_help = "\
 Examples:
   $ vokhsaot steps --matrix 4096,0,0 --steps 2 --at 0,0 row.pgm
-  $ vokhsaot steps --oval 4,1,30 --steps 8 --at 26,4 horizon.pgm
-"
-    ),
-};
+  $ vokhsaot steps --oval 4,1,30 --steps 8 --at 26,4 horizon.pgm"
+)]
+pub struct Options {
+    #[command(flatten)]
+    run: RunOptions,
+    /// The pixel's column and row
+    #[arg(long, value_name = "X,Y", value_parser = Place::read, allow_hyphen_values = true)]
+    at: Place,
+    /// The picture before the first step; - is standard input
+    #[arg(default_value = "-")]
+    input: OsString,
+}
 
 /// The longest bar, so that a line with a word has less than 80 characters.
 const BAR: usize = 50;
@@ -49,21 +50,17 @@ const BAR: usize = 50;
 const TILE: usize = 32;
 const _: () = assert!(TILE * TILE <= BUFFER_PIXELS);
 
-pub fn command(arguments: &Arguments) -> Result<(), Failure> {
-    let (shape, steps) = shape::from_options(arguments)?;
-    let place = arguments.needed("at", Place::read)?;
-    let picture = files::read_picture(arguments.operand(0))?;
-    let (text, broken) = table(&readings(shape, steps, place, picture)?);
+pub fn command(options: &Options) -> Result<Outcome, Failure> {
+    let (shape, steps) = options.run.read("steps")?;
+    let picture = files::read_picture(&options.input)?;
+    let (text, broken) = table(&readings(shape, steps, options.at, picture)?);
     files::print(text.as_bytes())?;
-    match broken {
-        0 => Ok(()),
-        _ => Err(Failure::Fault(format!("promises broken, steps: {broken}"))),
-    }
+    Ok(Outcome::good_if(broken == 0))
 }
 
 /// A column and a row, from 0.
 #[derive(Clone, Copy)]
-struct Place {
+pub struct Place {
     x: usize,
     y: usize,
 }
@@ -97,10 +94,11 @@ fn readings(
     let start = whole.around(place, steps as usize + 1);
     let mut second = vec![0; whole.pixels.len()];
     let first = &mut whole.pixels;
-    run(shape, steps, width, height, first, &mut second)?;
+    run(shape, steps, width, height, first, &mut second)
+        .map_err(|refusal| explained(refusal, shape, steps))?;
     let Place { x, y } = place;
     let start = start.ok_or_else(|| {
-        Failure::Fault(format!(
+        Failure::Input(format!(
             "{x},{y} lies outside the picture: it has {width} × {height} pixels, counted from 0"
         ))
     })?;
@@ -118,11 +116,6 @@ fn readings(
         readings[step as usize].run = Some(run[y * width as usize + x]);
     }
     Ok(readings)
-}
-
-/// The columns or rows at most `reach` away from one of them, as far as the picture's side goes.
-fn near(place: usize, reach: usize, side: usize) -> Range<usize> {
-    place.saturating_sub(reach)..side.min(place.saturating_add(reach + 1))
 }
 
 /// Columns or rows in a row of tiles, none of which is longer than [`TILE`] with its margin.
@@ -247,12 +240,12 @@ impl Stepper {
             .service
             .submit(self.shape, self.steps, width, height, &tile.pixels)?;
         if self.service.tick()? != Some(number) {
-            return Err(Failure::Fault(
+            return Err(Failure::Input(
                 "a tick did NOT serve the only job".to_owned(),
             ));
         }
         // No other seat is filled, so they take turns. After an odd number of steps the second buffer has the picture.
-        let seat = (number - 1) as usize % SLOTS;
+        let seat = (number - 1) as usize % SEATS;
         let buffer = (2 * seat + 1) * BUFFER_PIXELS;
         let after = &self.service.store()[buffer..buffer + tile.pixels.len()];
         tile.pixels.copy_from_slice(after);
@@ -338,7 +331,7 @@ fn table(readings: &[Reading]) -> (String, usize) {
 }
 
 /// The bar of a height, rounded up: every height but 0 has one.
-fn bar(height: usize, largest: usize) -> String {
+pub fn bar(height: usize, largest: usize) -> String {
     "#".repeat((BAR * height).div_ceil(largest.max(1)))
 }
 

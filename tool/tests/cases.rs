@@ -100,7 +100,7 @@ fn refusals_of_the_worked_cases() {
         // d, g and h
         ("4097,0,4096", 1, "  the larger variance 4097 is 1 more than M = 4096 × 1\n  2 steps would be enough\n"),
         ("1000,1001,1000", 1, "  |xy| = 1001 is 1 more than the smaller variance 1000\n  no number of steps is enough\n"),
-        ("-1,0,0", 1, "  |xy| = 0 is 1 more than the smaller variance -1\n  no number of steps is enough\n"),
+        ("-1,0,0", 1, "  the variance -1 is negative\n  no number of steps is enough\n"),
         // The lean may be to either side; both conditions may fail; 64 steps are the most.
         ("7,-9,8", 3, "  |xy| = 9 is 2 more than the smaller variance 7\n  no number of steps is enough\n"),
         ("0,1,9000", 2, "  |xy| = 1 is 1 more than the smaller variance 0\n  the larger variance 9000 is 808 more than M = 4096 × 2\n  no number of steps is enough\n"),
@@ -110,29 +110,34 @@ fn refusals_of_the_worked_cases() {
     ] {
         let ran = folder.run(&format!("kernel --matrix {shape} --steps {count}"), b"");
         let text = String::from_utf8(ran.stdout).unwrap();
-        assert_eq!(text.split_once('\n').unwrap().1, steps(count) + reasons);
-        assert_eq!(ran.stderr, "vokhsaot: refused (11): No kernel exists.\n");
-        assert_eq!(ran.status, 1);
+        let told = steps(count) + reasons + "refused (11): No kernel exists.\n";
+        assert_eq!(text.split_once('\n').unwrap().1, told);
+        assert_eq!((ran.status, ran.stderr.as_str()), (1, ""));
+        // A command that has nothing to print without a kernel says the same in one line.
+        let smooth = format!("smooth --matrix {shape} --steps {count}");
+        let reasons: Vec<&str> = reasons.lines().map(str::trim_start).collect();
+        let line = format!("refused (11): No kernel exists: {}", reasons.join("; "));
+        folder.run(&smooth, b"P2 1 1 1 0").assert_failed(2, &line);
     }
     // i, and the refusals that come before
     let run = |line: &str| folder.run(line, b"");
     let steps = "refused (5): Steps are not 1 to 64.";
-    run("kernel --matrix 262144,0,0 --steps 65").assert_failed(1, steps);
-    run("kernel --matrix -1,0,0 --steps 0").assert_failed(1, steps);
+    run("kernel --matrix 262144,0,0 --steps 65").assert_failed(2, steps);
+    run("kernel --matrix -1,0,0 --steps 0").assert_failed(2, steps);
     let variance =
         "refused (3): A variance of a Round or an Oval is not a number or lies outside 0 to 64.";
-    run("kernel --round 64.5 --steps 0").assert_failed(1, variance);
-    run("kernel --round NaN --steps 1").assert_failed(1, variance);
-    run("kernel --oval 1,-1,0 --steps 1").assert_failed(1, variance);
+    run("kernel --round 64.5 --steps 0").assert_failed(2, variance);
+    run("kernel --round NaN --steps 1").assert_failed(2, variance);
+    run("kernel --oval 1,-1,0 --steps 1").assert_failed(2, variance);
     let direction = "refused (4): A cosine or sine is not a number or lies outside −1 to 1, or (c·c) + (s·s) lies outside 1023/1024 to 1025/1024.";
-    run("kernel --oval 1,1,1,1 --steps 1").assert_failed(1, direction);
-    run("kernel --oval 1,1,inf --steps 1").assert_failed(1, direction);
+    run("kernel --oval 1,1,1,1 --steps 1").assert_failed(2, direction);
+    run("kernel --oval 1,1,inf --steps 1").assert_failed(2, direction);
 }
 
 /// Smooths a picture by its numbers.
 fn smoothed(shape: &str, steps: u32, width: u32, height: u32, pixels: &[u16]) -> Vec<u32> {
     let folder = Folder::new("smoothed");
-    let line = format!("smooth {shape} --steps {steps} - -");
+    let line = format!("smooth --quiet {shape} --steps {steps}");
     let picture = plain(width, height, 65535, pixels);
     let found = numbers(&folder.run(&line, picture.as_bytes()).good()).unwrap();
     assert_eq!(found[..3], [width, height, 65535]);
@@ -164,7 +169,7 @@ fn pictures_of_the_worked_cases() {
         "smooth --matrix 4096,0,0 --steps 65 - -",
         picture.as_bytes(),
     );
-    refused.assert_failed(1, "refused (5): Steps are not 1 to 64.");
+    refused.assert_failed(2, "refused (5): Steps are not 1 to 64.");
 }
 
 #[test]
@@ -192,7 +197,8 @@ fn pictures_of_the_independent_program() {
                 let ran = folder.run(&line, picture.as_bytes());
                 let start = format!("vokhsaot: refused ({number}): ");
                 assert!(ran.stderr.starts_with(&start), "{line}: {}", ran.stderr);
-                assert_eq!((ran.status, folder.names().len()), (1, 0));
+                assert_eq!(ran.stderr.lines().count(), 1, "{line}");
+                assert_eq!((ran.status, folder.names().len()), (2, 0));
                 refused += 1;
             }
         }

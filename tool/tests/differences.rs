@@ -55,10 +55,11 @@ fn refusals() {
     assert!(ran
         .stderr
         .starts_with("vokhsaot: refused (4): A cosine or sine "));
-    assert_eq!((ran.status, folder.names().len()), (1, 0));
+    assert_eq!((ran.status, folder.names().len()), (2, 0));
     let wide = plain(1, 1025, 1, &[1; 1025]);
     let ran = folder.run("difference --x - -", wide.as_bytes());
-    ran.assert_failed(1, "refused (6): A width or height is not 1 to 1024.");
+    let refusal = "refused (6): A width or height is not 1 to 1024.";
+    ran.assert_failed(2, &format!("standard input: 1 × 1025 pixels: {refusal}"));
 }
 
 #[test]

@@ -118,7 +118,7 @@ fn course_prints_what_it_shows() {
 /// The lessons of the course, each from its heading on.
 fn lessons() -> Vec<&'static str> {
     let lessons: Vec<&str> = COURSE.split("\n## ").skip(1).collect();
-    assert_eq!(lessons.len(), 10);
+    assert_eq!(lessons.len(), 12);
     lessons
 }
 
@@ -242,21 +242,69 @@ fn help_texts() {
     for line in commands.lines() {
         let command = line.split_whitespace().next().unwrap();
         let help = folder.run(&format!("{command} --help"), b"").text();
-        assert!(help.starts_with(&format!("Usage: vokhsaot {command} ")));
+        assert!(help.starts_with(&format!("Usage: vokhsaot {command}")));
         assert_eq!(help, folder.run(&format!("{command} -h"), b"").text());
         helps.push(help);
     }
-    assert_eq!(helps.len(), 8);
+    assert_eq!(helps.len(), 15);
     for help in helps {
         let (_, examples) = help.split_once("Examples:\n").expect("examples");
         assert!(!examples.is_empty());
         for line in examples.lines() {
             let command = line.strip_prefix("  $ ").expect(line);
-            assert!(shown.iter().any(|other| other == command), "{command}");
+            let is_shown = |other: &String| other.trim_end_matches("; echo $?") == command;
+            assert!(shown.iter().any(is_shown), "{command}");
         }
         assert!(
             help.lines().all(|line| line.chars().count() <= 80),
             "{help}"
         );
     }
+}
+
+/// The words of a text that is not code: neither in a fenced block nor between backquotes.
+fn prose(text: &str) -> Vec<String> {
+    let mut words = Vec::new();
+    for block in text.split("```\n").step_by(2) {
+        for part in block.split('`').step_by(2) {
+            let part = part.split(|letter: char| !letter.is_alphanumeric());
+            words.extend(part.map(str::to_lowercase));
+        }
+    }
+    words
+}
+
+/// Document 01's word is seat; the code's, which users do not read, is slot. The course says so once.
+#[test]
+fn one_word_for_a_seat() {
+    let slots = |text: &str| {
+        let words = prose(text).into_iter();
+        words
+            .filter(|word| word == "slot" || word == "slots")
+            .count()
+    };
+    assert_eq!(
+        (slots("a `slot` of Slots"), slots("seat\n```\nslot\n```\n")),
+        (1, 0)
+    );
+    assert_eq!(slots(COURSE), 1);
+    let folder = Folder::new("seats");
+    let manual = folder.run("manual", b"").text();
+    let header = include_str!("../../rust/include/vokhsaot.h");
+    let library = ["lib.rs", "service.rs", "error.rs"].map(|name| {
+        let path = Path::new(REPOSITORY).join("rust/src").join(name);
+        fs::read_to_string(path).unwrap()
+    });
+    let mut seats = 0;
+    for text in [REFERENCE, &manual, header]
+        .into_iter()
+        .chain(library.iter().map(String::as_str))
+    {
+        // Of these everything is read, code included.
+        let words = text.split(|letter: char| !letter.is_alphanumeric());
+        let words: Vec<String> = words.map(str::to_lowercase).collect();
+        assert!(!words.iter().any(|word| word == "slot" || word == "slots"));
+        seats += words.iter().filter(|word| word.starts_with("seat")).count();
+    }
+    assert!(seats > 10);
 }

@@ -2,25 +2,71 @@
 
 mod common;
 
-use common::Folder;
+use common::{numbers, plain, Folder, TOOL};
 use reference::kernel::Covariance;
 use reference::lists::{Calls, Model};
 use reference::random::Random;
 use reference::service::STORE_PIXELS;
 use reference::shape::{Direction, Shape};
 use std::collections::{BTreeMap, BTreeSet};
+use std::io::{BufRead, BufReader, Write};
+use std::process::{Command, Stdio};
 
+/// What `replay` prints for a list that is judged good, without its verdict.
 fn replay(list: &str) -> String {
-    Folder::new("replay")
-        .run("replay -", list.as_bytes())
-        .text()
+    let ran = Folder::new("replay").run("replay -", list.as_bytes());
+    let text = ran.text();
+    let (lines, verdict) = split_verdict(&text);
+    assert!(verdict.starts_with("verdict: good: "), "{verdict}");
+    lines
 }
 
+/// All lines but the last, and the last.
+fn split_verdict(text: &str) -> (String, String) {
+    let text = text.trim_end_matches('\n');
+    match text.rsplit_once('\n') {
+        Some((lines, verdict)) => (format!("{lines}\n"), verdict.to_owned()),
+        None => (String::new(), text.to_owned()),
+    }
+}
+
+/// A list that hands no job over is no success, and says so.
 #[test]
-fn empty_lists() {
-    assert_eq!(replay(""), "");
-    assert_eq!(replay("# nothing\n\n \t \n"), "");
-    assert_eq!(replay("free"), "line 1: free: 16 [16 free]\n");
+fn lists_that_judge_no_job() {
+    let folder = Folder::new("nothing");
+    for (list, lines, calls) in [
+        ("", "", "0 calls (0 refused), 0 answers judged"),
+        ("# nothing\n\n \t \n", "", "0 calls (0 refused), 0 answers judged"),
+        (
+            "free",
+            "call 1, line 1: free: 16 [16 free]\n",
+            "1 call (0 refused), 2 answers judged",
+        ),
+        (
+            "submit round 64.5 steps 0 size 0 0 pixels\n",
+            "call 1, line 1: submit: refused (3): A variance of a Round or an Oval is not a number or lies outside 0 to 64. [16 free]\n",
+            "1 call (1 refused), 2 answers judged",
+        ),
+        (
+            "submit round 0.5 steps 1 size 1 1 pixels 7\ntick",
+            "call 1, line 1: submit: job 1 [14 free]\ncall 2, line 2: tick: job 1 [14 free]\n",
+            "2 calls (0 refused), 4 answers judged",
+        ),
+    ] {
+        let ran = folder.run("replay", list.as_bytes());
+        let wait = match list.contains("tick") {
+            true => "longest wait 1 of at most 8 ticks (13 %)",
+            false => "no job finished",
+        };
+        let verdict = format!(
+            "verdict: NO JOB JUDGED, none was handed over: {calls}, 0 jobs handed over, {wait}\n"
+        );
+        assert_eq!(String::from_utf8(ran.stdout).unwrap(), format!("{lines}{verdict}"));
+        assert_eq!((ran.status, ran.stderr.as_str()), (1, ""), "{list}");
+        let quiet = folder.run("replay --quiet -", list.as_bytes());
+        assert_eq!(String::from_utf8(quiet.stdout).unwrap(), verdict);
+        assert_eq!(quiet.status, 1);
+    }
 }
 
 /// Nine jobs for eight seats, turns, a job that is not finished, and seats that are used again.
@@ -32,26 +78,37 @@ fn a_full_service() {
                  tick 15\ncollect 9\ncollect 3 length 1\ncollect 3\ntick\nfree";
     let mut expected = String::new();
     for job in 1..=8 {
-        expected += &format!("line {job}: submit: job {job} [{} free]\n", 16 - 2 * job);
+        expected += &format!(
+            "call {job}, line {job}: submit: job {job} [{} free]\n",
+            16 - 2 * job
+        );
     }
-    expected += "line 9: submit: refused (12): Fewer than two buffers are free. [0 free]\n\
-        line 10: tick: job 1 [0 free]\n\
-        line 11: collect 1: refused (8): The job has steps left. [0 free]\n\
-        line 12: withdraw 1: job 1 [2 free]\n\
-        line 13: withdraw 1: refused (7): No seat has this job number. [2 free]\n\
-        line 14: submit: job 9 [0 free]\n";
+    expected += "call 9, line 9: submit: refused (12): Fewer than two buffers are free. [0 free]\n\
+        call 10, line 10: tick: job 1 [0 free]\n\
+        call 11, line 11: collect 1: refused (8): The job has steps left. [0 free]\n\
+        call 12, line 12: withdraw 1: job 1 [2 free]\n\
+        call 13, line 13: withdraw 1: refused (7): No seat has this job number. [2 free]\n\
+        call 14, line 14: submit: job 9 [0 free]\n";
     // Seat 0 was served last; its new job waits until the others had their turn.
-    for job in [2, 3, 4, 5, 6, 7, 8, 9, 2, 3, 4, 5, 6, 7, 8] {
-        expected += &format!("line 15: tick: job {job} [0 free]\n");
+    let turns = [2, 3, 4, 5, 6, 7, 8, 9, 2, 3, 4, 5, 6, 7, 8];
+    for (call, job) in (15..).zip(turns) {
+        expected += &format!("call {call}, line 15: tick: job {job} [0 free]\n");
     }
-    expected += "line 16: collect 9: job 9 [2 free]\n\
-        line 17: collect 3 length 1: refused (9): A lent picture's length is not w × h. [2 free]\n\
-        line 18: collect 3: job 3 [4 free]\n\
-        line 19: tick: idle [4 free]\n\
-        line 20: free: 4 [4 free]\n\
+    expected += "call 30, line 16: collect 9: job 9 [2 free]\n\
+        job 9: equals its lone run; 0.000 from the exact run (at most 0.5); finished by tick 8 (at most 8)\n\
+        call 31, line 17: collect 3 length 1: refused (9): A lent picture's length is not w × h. [2 free]\n\
+        call 32, line 18: collect 3: job 3 [4 free]\n\
         job 3: equals its lone run; 0.375 from the exact run (at most 1.0); finished by tick 11 (at most 16)\n\
-        job 9: equals its lone run; 0.000 from the exact run (at most 0.5); finished by tick 8 (at most 8)\n";
-    assert_eq!(replay(&(submit + calls)), expected);
+        call 33, line 19: tick: idle [4 free]\n\
+        call 34, line 20: free: 4 [4 free]\n";
+    let list = submit + calls;
+    assert_eq!(replay(&list), expected);
+    let quiet = Folder::new("quiet")
+        .run("replay -q", list.as_bytes())
+        .text();
+    let counts = "34 calls (4 refused), 68 answers judged, 2 jobs handed over";
+    let wait = "longest wait 16 of at most 16 ticks (100 %)";
+    assert_eq!(quiet, format!("verdict: good: {counts}, {wait}\n"));
 }
 
 #[test]
@@ -59,6 +116,7 @@ fn refused_submits() {
     for (call, refusal) in [
         ("round 64.5 steps 0 size 0 0 pixels", "(3): A variance of a Round or an Oval is not a number or lies outside 0 to 64."),
         ("oval 1 1 0.5 0.5 steps 0 size 0 0 pixels", "(4): A cosine or sine is not a number or lies outside −1 to 1, or (c·c) + (s·s) lies outside 1023/1024 to 1025/1024."),
+        ("oval 1 1 inf steps 0 size 0 0 pixels", "(4): A cosine or sine is not a number or lies outside −1 to 1, or (c·c) + (s·s) lies outside 1023/1024 to 1025/1024."),
         ("matrix -1 0 0 steps 65 size 0 0 pixels", "(5): Steps are not 1 to 64."),
         ("matrix -1 0 0 steps 1 size 4294967295 4294967295 seed 1", "(6): A width or height is not 1 to 1024."),
         ("matrix -1 0 0 steps 1 size 64 17 pixels 1", "(9): A lent picture's length is not w × h."),
@@ -66,8 +124,10 @@ fn refused_submits() {
         ("matrix -1 0 0 steps 1 size 1024 1024 seed 1", "(10): A submitted picture has more than 1024 pixels."),
         ("matrix -1 0 0 steps 1 size 64 16 seed 1", "(11): No kernel exists."),
     ] {
-        let expected = format!("line 1: submit: refused {refusal} [16 free]\n");
-        assert_eq!(replay(&format!("submit {call}")), expected, "{call}");
+        let good = "submit round 0.5 steps 1 size 1 1 pixels 7\ntick\ncollect 1\n";
+        let expected = format!("call 4, line 4: submit: refused {refusal} [16 free]\n");
+        let found = replay(&format!("{good}submit {call}"));
+        assert!(found.ends_with(&expected), "{found} for {call}");
     }
 }
 
@@ -76,14 +136,10 @@ fn refused_submits() {
 fn the_longest_job() {
     let list = "submit round 20.5 steps 64 size 32 32 seed 3\ntick 64\ncollect 1";
     let text = replay(list);
-    let verdict = text.lines().last().unwrap();
-    assert!(
-        verdict.starts_with("job 1: equals its lone run; "),
-        "{verdict}"
-    );
-    assert!(
-        verdict.ends_with(" from the exact run (at most 32.0); finished by tick 64 (at most 512)")
-    );
+    let job = text.lines().last().unwrap();
+    assert!(job.starts_with("job 1: equals its lone run; "), "{job}");
+    let end = " from the exact run (at most 32.0); finished by tick 64 (at most 512)";
+    assert!(job.ends_with(end), "{job}");
 }
 
 #[test]
@@ -91,9 +147,127 @@ fn lines_that_are_no_calls() {
     let folder = Folder::new("no-calls");
     folder.file("bad.list", "free\n# good so far\n\ncollect one\ntock");
     let message = "bad.list: line 4: \"one\" is not a whole number from 0 to 18446744073709551615";
-    folder.run("replay bad.list", b"").assert_failed(1, message);
+    folder.run("replay bad.list", b"").assert_failed(2, message);
+    folder.file("bytes.list", b"free\n\xff\n");
+    let message = "bytes.list: line 2: this is no UTF-8 text";
+    folder
+        .run("replay bytes.list", b"")
+        .assert_failed(2, message);
+    let message = "none.list: No such file or directory (os error 2)";
+    folder
+        .run("replay none.list", b"")
+        .assert_failed(2, message);
+    let message = ".: Is a directory (os error 21)";
+    folder.run("replay .", b"").assert_failed(2, message);
+    // Standard input is answered as it comes, up to the line that is no call.
     let ran = folder.run("replay -", b"free\n\xff\n");
-    ran.assert_failed(1, "standard input: this is no UTF-8 text");
+    assert_eq!(ran.stdout, b"call 1, line 1: free: 16 [16 free]\n");
+    assert_eq!(
+        ran.stderr,
+        "vokhsaot: standard input: line 2: this is no UTF-8 text\n"
+    );
+    assert_eq!(ran.status, 2);
+}
+
+/// Over a store of noise all is as over zeros; it is told before the first call.
+#[test]
+fn stores() {
+    let list = "submit round 1 steps 3 size 5 4 seed 1\ntick 3\ncollect 1\n";
+    let noise = format!("# noise\n\nstore seed 5\n{list}");
+    let without_lines = |text: &str| -> Vec<String> {
+        let lines = text.lines().map(|line| {
+            let words = line.split(' ');
+            words.filter(|word| !word.ends_with(':')).collect()
+        });
+        lines.collect()
+    };
+    let folder = Folder::new("stores");
+    folder.file("noise.list", &noise);
+    let zeros = replay(list);
+    for text in [replay(&noise), folder.run("replay noise.list", b"").text()] {
+        assert!(text.starts_with("call 1, line 4: submit: job 1"), "{text}");
+        let same = without_lines(&text);
+        assert!(same.starts_with(&without_lines(&zeros)), "{text}");
+    }
+    let late = folder.run("replay", b"free\nstore seed 1\n");
+    let message = "vokhsaot: standard input: line 2: the store is told before all calls\n";
+    assert_eq!((late.stderr.as_str(), late.status), (message, 2));
+}
+
+/// Each line is answered before the next one is written.
+#[test]
+fn answers_come_as_the_calls_do() {
+    let mut child = Command::new(TOOL)
+        .args(["replay", "-"])
+        .stdin(Stdio::piped())
+        .stdout(Stdio::piped())
+        .spawn()
+        .unwrap();
+    let mut calls = child.stdin.take().unwrap();
+    let mut answers = BufReader::new(child.stdout.take().unwrap()).lines();
+    let mut next = || answers.next().unwrap().unwrap();
+    for (call, answer) in [
+        (
+            "submit round 0.5 steps 1 size 1 1 pixels 7",
+            "call 1, line 1: submit: job 1 [14 free]",
+        ),
+        ("tick", "call 2, line 2: tick: job 1 [14 free]"),
+        ("collect 1", "call 3, line 3: collect 1: job 1 [16 free]"),
+    ] {
+        writeln!(calls, "{call}").unwrap();
+        assert_eq!(next(), answer);
+    }
+    drop(calls);
+    assert!(next().starts_with("job 1: equals its lone run; "));
+    assert!(next().starts_with("verdict: good: 3 calls (0 refused), "));
+    assert!(child.wait().unwrap().success());
+}
+
+/// Pictures go in and out by their files, as the command line's do.
+#[test]
+fn pictures_through_the_service() {
+    let folder = Folder::new("files");
+    folder.file(
+        "a b.pgm",
+        plain(3, 3, 1600, &[0, 0, 0, 0, 1600, 0, 0, 0, 0]),
+    );
+    let list = "submit matrix 2048 0 2048 steps 1 file \"a b.pgm\"\n\
+        submit oval 1 0 90 steps 1 file \"a b.pgm\"\n\
+        submit oval 1 0 0 1 steps 1 size 3 3 pixels 0 0 0 0 1600 0 0 0 0\n\
+        tick 3\ncollect 9 to none.pgm\ncollect 1 length 4 to none.pgm\n\
+        collect 1 to one.pgm\ncollect 2 to two.pgm\ncollect 3 to three.pgm\n";
+    let text = folder.run("replay", list.as_bytes()).text();
+    assert!(
+        text.contains("call 9, line 7: collect 1 to one.pgm: job 1 [12 free]\n"),
+        "{text}"
+    );
+    assert_eq!(
+        folder.names(),
+        ["a b.pgm", "one.pgm", "three.pgm", "two.pgm"]
+    );
+    let numbers = |name: &str| numbers(&folder.read(name)).unwrap();
+    assert_eq!(
+        numbers("one.pgm"),
+        [3, 3, 1600, 0, 400, 0, 400, 0, 400, 0, 400, 0]
+    );
+    assert_eq!(
+        numbers("two.pgm"),
+        [3, 3, 1600, 0, 800, 0, 0, 0, 0, 0, 800, 0]
+    );
+    // A picture of no file has the largest maxval.
+    assert_eq!(numbers("three.pgm")[2], 65535);
+    assert_eq!(numbers("two.pgm")[3..], numbers("three.pgm")[3..]);
+    // The same as smooth does.
+    folder.run(
+        "smooth --oval 1,0,90 --steps 1 - smooth.pgm",
+        &folder.read("a b.pgm"),
+    );
+    assert_eq!(folder.read("smooth.pgm"), folder.read("two.pgm"));
+    // A picture that is not there is told before the first call, also where a collect would write.
+    folder.file("bad.list", "submit round 0.5 steps 1 size 1 1 pixels 1\ntick\ncollect 1 to new.pgm\nsubmit round 1 steps 1 file none.pgm\n");
+    let message = "bad.list: line 4: none.pgm: No such file or directory (os error 2)";
+    folder.run("replay bad.list", b"").assert_failed(2, message);
+    assert!(!folder.names().contains(&"new.pgm".to_owned()));
 }
 
 /// A list taken apart by other means than the tool's, and run on the independent program's service.
@@ -201,8 +375,10 @@ fn check_mixture(list: &str) -> BTreeSet<String> {
     };
     let mut expected = Vec::new();
     for (place, line) in list.lines().enumerate().skip(1) {
-        let answers = other.answers(line).into_iter();
-        expected.extend(answers.map(|answer| format!("line {}: {answer}", place + 1)));
+        for answer in other.answers(line) {
+            let call = expected.len() + 1;
+            expected.push(format!("call {call}, line {}: {answer}", place + 1));
+        }
     }
     let text = replay(list);
     let (jobs, calls): (Vec<&str>, Vec<&str>) =
@@ -248,7 +424,9 @@ fn mixtures_with_few_jobs() {
         let list = folder
             .run(&format!("mixture --seed 3 --calls 300 --jobs {jobs}"), b"")
             .text();
-        let text = replay(&list);
+        let ran = folder.run("replay", list.as_bytes());
+        assert_eq!(ran.status, i32::from(jobs == 0));
+        let text = String::from_utf8(ran.stdout).unwrap();
         let accepted = text.lines().filter(|line| line.contains(": submit: job "));
         assert_eq!(accepted.count(), jobs, "{jobs}");
     }

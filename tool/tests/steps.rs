@@ -194,16 +194,20 @@ fn refusals_and_places_outside() {
     folder.file("wide.pgm", plain(1025, 1, 1, &[1; 1025]));
     folder.file("short.pgm", "P2 3 2 9 1 2 3");
     for (work, input, refusal) in [
-        ("--round 64.5 --steps 0", "wide.pgm", "refused (3)"),
-        ("--oval 1,1,1,1 --steps 0", "wide.pgm", "refused (4)"),
-        ("--matrix -1,0,0 --steps 0", "wide.pgm", "refused (5)"),
-        ("--matrix -1,0,0 --steps 65", "wide.pgm", "refused (5)"),
+        ("--round 64.5 --steps 0", "good.pgm", "refused (3)"),
+        ("--oval 1,1,1,1 --steps 0", "good.pgm", "refused (4)"),
+        ("--matrix -1,0,0 --steps 0", "good.pgm", "refused (5)"),
+        ("--matrix -1,0,0 --steps 65", "good.pgm", "refused (5)"),
         (
             "--matrix -1,0,0 --steps 4294967295",
             "good.pgm",
             "refused (5)",
         ),
-        ("--matrix -1,0,0 --steps 1", "wide.pgm", "refused (6)"),
+        (
+            "--matrix -1,0,0 --steps 1",
+            "wide.pgm",
+            "wide.pgm: 1025 × 1 pixels: refused (6)",
+        ),
         ("--matrix -1,0,0 --steps 1", "good.pgm", "refused (11)"),
         ("--round 1 --steps 2", "short.pgm", "short.pgm: "),
         ("--round 1 --steps 2", "none.pgm", "none.pgm: "),
@@ -211,6 +215,7 @@ fn refusals_and_places_outside() {
         let smooth = folder.run(&format!("smooth {work} {input} -"), b"");
         let start = format!("vokhsaot: {refusal}");
         assert!(smooth.stderr.starts_with(&start), "{}", smooth.stderr);
+        assert_eq!(smooth.status, 2);
         for place in ["0,0", "3,0", "4294967295,4294967295"] {
             let steps = folder.run(&format!("steps {work} --at {place} {input}"), b"");
             assert_eq!(steps, smooth, "{work} {input} {place}");
@@ -220,7 +225,7 @@ fn refusals_and_places_outside() {
         let line = format!("steps --round 1 --steps 2 --at {place} good.pgm");
         let message =
             format!("{place} lies outside the picture: it has 3 × 2 pixels, counted from 0");
-        folder.run(&line, b"").assert_failed(1, &message);
+        folder.run(&line, b"").assert_failed(2, &message);
     }
     assert_eq!(folder.names().len(), 3);
 }

@@ -1,0 +1,85 @@
+//! A filled seat, read from the words of a record.
+
+use crate::model::SEAT_WORDS;
+use reference::kernel::{kernel, Covariance, Kernel};
+use std::ops::Range;
+use vokhsaot::{BUFFER_PIXELS, SEATS};
+
+/// The words after those of the seats.
+pub const LAST_NUMBER: usize = SEATS * SEAT_WORDS;
+pub const LAST_FILLED: usize = LAST_NUMBER + 1;
+pub const LAST_SERVED: usize = LAST_NUMBER + 2;
+
+#[derive(Clone, Copy)]
+pub struct Seat {
+    pub place: usize,
+    pub number: u64,
+    pub covariance: Covariance,
+    pub steps: u32,
+    pub left: u32,
+    pub width: u32,
+    pub height: u32,
+}
+
+impl Seat {
+    /// The seat at a place, where it is filled.
+    pub fn at(words: &[u64], place: usize) -> Option<Seat> {
+        let word = |field: usize| words[place * SEAT_WORDS + field];
+        // A record in order keeps 32 bits in each of these words.
+        let entry = |field: usize| word(field) as u32 as i32;
+        let number = word(0);
+        (number != 0).then(|| Seat {
+            place,
+            number,
+            covariance: Covariance {
+                xx: entry(1),
+                xy: entry(2),
+                yy: entry(3),
+            },
+            steps: word(4) as u32,
+            left: word(5) as u32,
+            width: word(6) as u32,
+            height: word(7) as u32,
+        })
+    }
+
+    /// The filled seats, by their places.
+    pub fn all(words: &[u64]) -> impl Iterator<Item = Seat> + '_ {
+        (0..SEATS).filter_map(|place| Seat::at(words, place))
+    }
+
+    pub fn of_job(words: &[u64], number: u64) -> Option<Seat> {
+        Seat::all(words).find(|seat| seat.number == number)
+    }
+
+    /// The seat that a tick has to serve.
+    pub fn whose_turn(words: &[u64]) -> Option<Seat> {
+        let last = words[LAST_SERVED] as usize;
+        (1..=SEATS)
+            .filter_map(|count| Seat::at(words, (last + count) % SEATS))
+            .find(|seat| seat.left > 0)
+    }
+
+    pub fn done(&self) -> u32 {
+        self.steps - self.left
+    }
+
+    pub fn area(&self) -> usize {
+        self.width as usize * self.height as usize
+    }
+
+    /// Where the store has its picture after so many steps.
+    pub fn picture_after(&self, steps: u32) -> Range<usize> {
+        let start = (2 * self.place + steps as usize % 2) * BUFFER_PIXELS;
+        start..start + self.area()
+    }
+
+    pub fn kernel(&self) -> Kernel {
+        self.kernel_of(self.covariance)
+    }
+
+    /// The kernel of another covariance, in as many steps.
+    pub fn kernel_of(&self, covariance: Covariance) -> Kernel {
+        kernel(covariance, self.steps).expect("a filled seat has a kernel")
+    }
+}

@@ -1,0 +1,68 @@
+#!/usr/bin/env bash
+# run.sh FOLDER: the tool linked to a library with a fault at its exported boundary, for each of wrapper.c's faults. `replay`
+# has to tell what is wrong in capitals with exit status 1, and nothing where the library has none. FOLDER has libcapi.a.
+set -eu
+here=$(cd "$(dirname "$0")" && pwd)
+library=$(cd "$1" && pwd)
+work=$(mktemp -d)
+trap 'rm -rf "$work"' EXIT
+
+# The proved calls under other names, and the faulty ones beside them.
+renamed=()
+for call in opening tick collect withdraw free_count; do
+    renamed+=(--redefine-sym "vokhsaot_$call=proved_$call")
+done
+objcopy "${renamed[@]}" "$library/libcapi.a" "$work/libcapi.a"
+gcc -std=c11 -Wall -Wextra -Werror -O2 -I "$here/../../../rust/include" -c "$here/wrapper.c" -o "$work/wrapper.o"
+ar r "$work/libcapi.a" "$work/wrapper.o"
+# The folder is named anew each time, so cargo links again; where it builds is the caller's to say.
+VOKHSAOT_LIB_DIR=$work cargo build --quiet --release --offline --manifest-path "$here/../../Cargo.toml"
+tool=${CARGO_TARGET_DIR:-$here/../../target}/release/vokhsaot
+cp "$tool" "$work/vokhsaot"
+
+cat >"$work/day.list" <<'LIST'
+submit round 1 steps 3 size 5 4 seed 1
+submit oval 2 1 30 steps 2 size 4 4 seed 2
+submit round 1 steps 2 size 3 3 seed 3
+tick 8
+withdraw 3
+collect 1
+collect 2
+LIST
+
+failed=0
+# check FAULT STATUS WORDS: what replay says of a fault
+check() {
+    local status=0 text
+    text=$(VOKHSAOT_FAULT=$1 "$work/vokhsaot" replay "$work/day.list" 2>&1) || status=$?
+    if [ "$status" = "$2" ] && grep -qF "$3" <<<"$text" && ! grep -q panicked <<<"$text"; then
+        echo "fault $1: $3"
+    else
+        failed=1
+        printf 'fault %s: exit status %s and "%s" were expected; status %s:\n%s\n' "$1" "$2" "$3" "$status" "$text"
+    fi
+}
+check 0 0 'verdict: good: '
+check 1 1 'WRONG FREE COUNT: 16; 14 are free with 1 job held'
+check 2 1 'IDLE WITH STEPS LEFT: idle; steps are left of job 1, 2, 3'
+check 3 1 'WRONG ANSWER: refused (7); by the list job 1 was due'
+check 4 1 'WRONG PICTURE: the pixel in column 4, row 3 is '
+check 5 1 'WRONG STORE: buffer 1 (seat 0, job 1): pixel 0 is '
+check 6 1 'NO ANSWER: the call came back with a number that is no refusal'
+check 7 1 'NO ANSWER: the opening came back with a number that is no refusal'
+check 8 1 'WRONG OPENING: the seat last served is 3 (due: 7)'
+check 9 1 'NO ANSWER: the free count came back with a number that is no refusal'
+check 10 1 'NO ANSWER: it did not end within 5 seconds'
+
+# soak writes the list of a call that does not come back: its last call is the one.
+soaked=0
+VOKHSAOT_FAULT=10 "$work/vokhsaot" soak --seed 1 --out "$work/hanging" >"$work/hanging.txt" || soaked=$?
+last=$(tail -n 1 "$work/hanging.list")
+if [ "$soaked" = 1 ] && [[ $last == withdraw\ * ]] && grep -q '^written: ' "$work/hanging.txt"; then
+    echo "fault 10: soak wrote its list"
+else
+    failed=1
+    echo "fault 10: soak: status $soaked, last call '$last'"
+    cat "$work/hanging.txt"
+fi
+exit "$failed"

@@ -1,0 +1,70 @@
+/* The exported calls of a faulty service, around the proved ones: the number in VOKHSAOT_FAULT says what is wrong. */
+
+#include "vokhsaot.h"
+#include <stdlib.h>
+
+uint32_t proved_opening(uint64_t *words, size_t words_len);
+uint32_t proved_tick(uint64_t *words, size_t words_len, uint16_t *store, size_t store_len, uint64_t *number);
+uint32_t proved_collect(uint64_t *words, size_t words_len, const uint16_t *store, size_t store_len, uint64_t job,
+                        uint16_t *picture, size_t picture_len, uint64_t *number);
+uint32_t proved_withdraw(uint64_t *words, size_t words_len, uint64_t job, uint64_t *number);
+uint32_t proved_free_count(const uint64_t *words, size_t words_len, uint32_t *count);
+
+static int fault(void) {
+    const char *number = getenv("VOKHSAOT_FAULT");
+    return number == NULL ? 0 : atoi(number);
+}
+
+/* 1: all buffers are always free. 9: a free count that is no answer. */
+uint32_t vokhsaot_free_count(const uint64_t *words, size_t words_len, uint32_t *count) {
+    uint32_t code = proved_free_count(words, words_len, count);
+    if (fault() == 1 && code == 0) {
+        *count = 16;
+    }
+    return fault() == 9 ? 77 : code;
+}
+
+/* 2: every third tick is idle, whatever is left. 5: a step leaves the first pixel of the store's first odd buffer one too large. */
+uint32_t vokhsaot_tick(uint64_t *words, size_t words_len, uint16_t *store, size_t store_len, uint64_t *number) {
+    static unsigned calls = 0;
+    calls += 1;
+    if (fault() == 2 && calls % 3 == 0) {
+        *number = 0;
+        return 0;
+    }
+    uint32_t code = proved_tick(words, words_len, store, store_len, number);
+    if (fault() == 5 && code == 0 && *number != 0) {
+        store[VOKHSAOT_BUFFER_PIXELS] += 1;
+    }
+    return code;
+}
+
+/* 3: no job is ever handed over. 4: the last pixel handed over is one too small. */
+uint32_t vokhsaot_collect(uint64_t *words, size_t words_len, const uint16_t *store, size_t store_len, uint64_t job,
+                          uint16_t *picture, size_t picture_len, uint64_t *number) {
+    if (fault() == 3) {
+        return 7;
+    }
+    uint32_t code = proved_collect(words, words_len, store, store_len, job, picture, picture_len, number);
+    if (fault() == 4 && code == 0) {
+        picture[picture_len - 1] -= 1;
+    }
+    return code;
+}
+
+/* 6: a number that is no refusal. 10: it never comes back. */
+uint32_t vokhsaot_withdraw(uint64_t *words, size_t words_len, uint64_t job, uint64_t *number) {
+    static volatile int forever = 1;
+    while (fault() == 10 && forever) {
+    }
+    return fault() == 6 ? 99 : proved_withdraw(words, words_len, job, number);
+}
+
+/* 7: an opening that refuses. 8: one whose seat last served is another. */
+uint32_t vokhsaot_opening(uint64_t *words, size_t words_len) {
+    uint32_t code = proved_opening(words, words_len);
+    if (fault() == 8 && code == 0) {
+        words[VOKHSAOT_WORDS - 1] = 3;
+    }
+    return fault() == 7 ? 2 : code;
+}
