@@ -49,10 +49,18 @@ fn no_text(bytes: &[u8]) -> String {
 const NO_TEXT: &str = "this is no UTF-8 text";
 
 fn each(mut input: impl BufRead) -> impl Iterator<Item = Result<String, String>> {
+    // What cannot be read once is not tried again.
+    let mut has_failed = false;
     std::iter::from_fn(move || {
+        if has_failed {
+            return None;
+        }
         let mut bytes = Vec::new();
         match input.by_ref().take(LONGEST).read_until(b'\n', &mut bytes) {
-            Err(error) => Some(Err(error.to_string())),
+            Err(error) => {
+                has_failed = true;
+                Some(Err(error.to_string()))
+            }
             Ok(0) => None,
             Ok(count) if count as u64 == LONGEST => Some(Err("the line is too long".to_owned())),
             Ok(_) => {
@@ -66,6 +74,15 @@ fn each(mut input: impl BufRead) -> impl Iterator<Item = Result<String, String>>
 #[cfg(test)]
 mod tests {
     use super::*;
+
+    /// An input that cannot be read.
+    struct Broken;
+
+    impl Read for Broken {
+        fn read(&mut self, _: &mut [u8]) -> io::Result<usize> {
+            Err(io::Error::other("broken"))
+        }
+    }
 
     #[test]
     fn lines_of_a_stream() {
@@ -87,5 +104,8 @@ mod tests {
             Some(Err("the line is too long".to_owned()))
         );
         assert_eq!(no_text(b"a\nb\n\xff"), "line 3: this is no UTF-8 text");
+        let mut broken = each(BufReader::new(Broken));
+        assert_eq!(broken.next(), Some(Err("broken".to_owned())));
+        assert_eq!(broken.next(), None);
     }
 }

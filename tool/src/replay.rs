@@ -113,26 +113,20 @@ impl<'a> Replay<'a> {
             let judged = judge.call(&line.call);
             let place = format!("call {}, line {}", judge.counts().calls, line.number);
             self.print(&answer_line(&place, &line.call, &judged))?;
-            if let Some(job) = &judged.handed_over {
-                let handed = self.hand_over(&line.call, job);
-                handed.map_err(|failure| failure.in_line(line.number))?;
+            if let Some(HandedOver {
+                number,
+                handed: Some(handed),
+                ..
+            }) = &judged.handed_over
+            {
+                self.print(&format!("job {number}: {}\n", handed.text()))?;
             }
+            // What differs is told before a file is written, which may fail.
             self.tell(&place, &judged.differences)?;
+            let written = write_picture(&line.call, judged.handed_over.as_ref());
+            written.map_err(|failure| failure.in_line(line.number))?;
         }
         Ok(())
-    }
-
-    /// What became of a job, and its picture's file.
-    fn hand_over(&mut self, call: &Call, job: &HandedOver) -> Result<(), Failure> {
-        if let Some(handed) = &job.handed {
-            self.print(&format!("job {}: {}\n", job.number, handed.text()))?;
-        }
-        match call {
-            Call::Collect { to: Some(name), .. } => {
-                files::write_picture(name.as_ref(), &picture_of(job))
-            }
-            _ => Ok(()),
-        }
     }
 
     fn tell(&mut self, place: &str, differences: &[Difference]) -> Result<(), Failure> {
@@ -160,6 +154,16 @@ impl<'a> Replay<'a> {
         };
         files::print(format!("{}\n", verdict.text()).as_bytes())?;
         Ok(Outcome::good_if(verdict.is_good()))
+    }
+}
+
+/// Writes the picture of a job that was handed over, where the call names a file for it.
+fn write_picture(call: &Call, job: Option<&HandedOver>) -> Result<(), Failure> {
+    match (call, job) {
+        (Call::Collect { to: Some(name), .. }, Some(job)) => {
+            files::write_picture(name.as_ref(), &picture_of(job))
+        }
+        _ => Ok(()),
     }
 }
 

@@ -263,6 +263,19 @@ fn pictures_through_the_service() {
         &folder.read("a b.pgm"),
     );
     assert_eq!(folder.read("smooth.pgm"), folder.read("two.pgm"));
+    // A file that cannot be written is told with its line, after what is to say of the job.
+    let list = "submit round 0.5 steps 1 size 1 1 pixels 1\ntick\ncollect 1 to none/a.pgm\nfree\n";
+    let ran = folder.run("replay", list.as_bytes());
+    let last = String::from_utf8(ran.stdout).unwrap();
+    assert!(
+        last.lines()
+            .last()
+            .unwrap()
+            .starts_with("job 1: equals its lone run"),
+        "{last}"
+    );
+    let message = "vokhsaot: line 3: none/a.pgm: No such file or directory (os error 2)\n";
+    assert_eq!((ran.stderr.as_str(), ran.status), (message, 2));
     // A picture that is not there is told before the first call, also where a collect would write.
     folder.file("bad.list", "submit round 0.5 steps 1 size 1 1 pixels 1\ntick\ncollect 1 to new.pgm\nsubmit round 1 steps 1 file none.pgm\n");
     let message = "bad.list: line 4: none.pgm: No such file or directory (os error 2)";
