@@ -17,6 +17,9 @@ except ImportError:
 
 ROUNDS = 31
 SHAPE = (9000, 2001, 7000)
+# The choices as the exported calls number them: a caller who names none gets the first, the service goes by the second.
+BINOMIAL, SMALLEST = 0, 1
+CHOICES = {BINOMIAL: "no choice named", SMALLEST: "the choice \"smallest\""}
 FORMS = [
     ("proved", "vector", "proved", "the proved run"),
     ("indexed", "vector", "indexed", "C, five multiplications, by index, gcc -O3"),
@@ -32,11 +35,12 @@ def shape_argument(shape):
 
 def runner(folder, library, name):
     function = getattr(ctypes.CDLL(f"{folder}/{library}.so"), name)
-    function.argtypes = [ctypes.c_void_p] + [ctypes.c_uint32] * 3 + [ctypes.c_void_p] * 2 + [ctypes.c_size_t]
+    function.argtypes = [ctypes.c_uint32, ctypes.c_void_p] + [ctypes.c_uint32] * 3 + [ctypes.c_void_p] * 2 + [ctypes.c_size_t]
 
-    def call(shape, steps, first, second, repeats=1):
+    def call(shape, steps, first, second, repeats=1, choice=BINOMIAL):
         height, width = first.shape
-        code = function(shape_argument(shape), steps, width, height, first.ctypes.data, second.ctypes.data, repeats)
+        pictures = (first.ctypes.data, second.ctypes.data)
+        code = function(choice, shape_argument(shape), steps, width, height, *pictures, repeats)
         if code != 0:
             sys.exit(f"{name} was refused: {code}")
 
@@ -51,19 +55,21 @@ def definition(image, weights, total):
     return ((2 * summed + total) // (2 * total)).astype(numpy.uint16)
 
 
-def weights_of(shape, steps):
-    """Document 01's formulas; none where there is no kernel."""
+def weights_of(shape, steps, choice=BINOMIAL):
+    """Document 01's formulas, and document 02's f for a caller who names no choice; none where there is no kernel."""
     xx, xy, yy = shape
     m = 4096 * steps
     f = max(abs(xy), xx + yy - m)
     if f > min(xx, yy):
         return None
+    if choice == BINOMIAL:
+        f = min(max(f, -((m - xx - yy - max(xx, yy)) // 2)), min(xx, yy))
     a, b, c, d = f + xy, f - xy, 2 * (xx - f), 2 * (yy - f)
     return [a, d, b, c, 4 * (m - xx - yy + f), c, b, d, a]
 
 
 def compare(runs):
-    """Every form gives the definition's image, for random shapes, sides and pixels."""
+    """Every form gives the definition's image, for random shapes, sides and pixels and by both choices."""
     pixels = numpy.random.default_rng(1)
     random.seed(1)
     tried = 0
@@ -71,20 +77,26 @@ def compare(runs):
         steps = random.randint(1, 9)
         xx, yy = random.randint(0, 4096 * steps), random.randint(0, 4096 * steps)
         shape = (xx, random.randint(-min(xx, yy), min(xx, yy)), yy)
-        weights = weights_of(shape, steps)
-        if weights is None:
+        if weights_of(shape, steps) is None:
             continue
         tried += 1
         height, width = random.randint(1, 12), random.randint(1, 40)
         image = pixels.integers(0, 65536, (height, width), dtype=numpy.uint16)
-        wanted = image
-        for _ in range(steps):
-            wanted = definition(wanted, weights, 16384 * steps)
-        for name, run in runs.items():
-            first, second = image.copy(), numpy.zeros_like(image)
-            run(shape, steps, first, second)
-            if not numpy.array_equal(second if steps % 2 else first, wanted):
-                sys.exit(f"{name} differs from the definition: {width} x {height}, {shape}, {steps} steps")
+        for choice in CHOICES:
+            compare_one(runs, shape, steps, image, choice)
+
+
+def compare_one(runs, shape, steps, image, choice):
+    """Every form gives the definition's image of one shape and image by one choice."""
+    wanted = image
+    for _ in range(steps):
+        wanted = definition(wanted, weights_of(shape, steps, choice), 16384 * steps)
+    for name, run in runs.items():
+        first, second = image.copy(), numpy.zeros_like(image)
+        run(shape, steps, first, second, choice=choice)
+        if not numpy.array_equal(second if steps % 2 else first, wanted):
+            height, width = image.shape
+            sys.exit(f"{name} differs from the definition: {width} x {height}, {shape}, {steps} steps, {CHOICES[choice]}")
 
 
 def filtered(shape, steps, first, second, repeats=1):
@@ -122,6 +134,9 @@ def smoothing(runs, width, height, steps, repeats):
     other = numpy.zeros_like(source)
     calls = {name: (lambda run=run: run(SHAPE, steps, source, other, repeats)) for name, run in runs.items()}
     titles = {name: title for name, _, _, title in FORMS}
+    if weights_of(SHAPE, steps, SMALLEST) != weights_of(SHAPE, steps):
+        calls["smallest"] = lambda: runs["proved"](SHAPE, steps, source, other, repeats, SMALLEST)
+        titles["smallest"] = f"the proved run, {CHOICES[SMALLEST]}"
     if cv2 is not None:
         calls["filter2D"] = lambda: filtered(SHAPE, steps, source, other, repeats)
         titles["filter2D"] = f"OpenCV {cv2.__version__} filter2D, replicated border"
@@ -133,8 +148,18 @@ def smoothing(runs, width, height, steps, repeats):
     return fastest, ratio_to(times, "filter2D", "proved") if cv2 is not None else None
 
 
+def kernels(library):
+    """Kernels alone, by each choice: all that differs between the two before the pixels."""
+    library.kernels.argtypes = [ctypes.c_uint32, ctypes.c_void_p, ctypes.c_uint32, ctypes.c_size_t]
+    repeats = 10000
+    shape = shape_argument(SHAPE)
+    times = measure({choice: (lambda choice=choice: library.kernels(choice, shape, 4, repeats)) for choice in CHOICES})
+    for choice, title in CHOICES.items():
+        row(f"a kernel, {title}", statistics.median(times[choice]) / repeats, "ns a kernel", ratio_to(times, choice, BINOMIAL))
+
+
 def service(library, proved):
-    """Ticks of full-size jobs beside the bare step, which is a step of a run of 64."""
+    """Ticks of full-size jobs beside the bare step, which is a step of a run of 64 by the service's choice."""
     fill, ticks = library.fill, library.ticks
     fill.argtypes = [ctypes.c_uint32, ctypes.c_void_p] + [ctypes.c_uint32] * 3 + [ctypes.c_void_p]
     image = numpy.random.default_rng(3).integers(0, 65536, (32, 32), dtype=numpy.uint16)
@@ -148,7 +173,7 @@ def service(library, proved):
             began = time.clock_gettime_ns(time.CLOCK_PROCESS_CPUTIME_ID)
             count = ticks()
             middle = time.clock_gettime_ns(time.CLOCK_PROCESS_CPUTIME_ID)
-            proved(SHAPE, 64, image, other, jobs)
+            proved(SHAPE, 64, image, other, jobs, SMALLEST)
             ended = time.clock_gettime_ns(time.CLOCK_PROCESS_CPUTIME_ID)
             if count != 64 * jobs:
                 sys.exit(f"{count} ticks of {jobs} jobs")
@@ -212,6 +237,7 @@ def main():
     large = smoothing(runs, 1024, 1024, 4, 1)
     smoothing(runs, 32, 32, 16, 32)
     smoothing(runs, 1000, 3, 16, 8)
+    kernels(library)
     share = service(library, runs["proved"])
     slow = texts(library, program)
     growth(runs["proved"])

@@ -101,44 +101,54 @@ static void buffered_step(const uint16_t *source, uint16_t *target, size_t width
 typedef void step(const uint16_t *source, uint16_t *target, size_t width, size_t height, const uint64_t *numbers);
 
 /* A run between two pictures, as the proved one: starts in the first, steps to and fro. */
-static uint32_t run(step *one, const int32_t *shape, uint32_t steps, uint32_t width, uint32_t height, uint16_t *first,
-                    uint16_t *second, size_t repeats)
+static uint32_t run(step *one, uint32_t choice, const int32_t *shape, uint32_t steps, uint32_t width, uint32_t height,
+                    uint16_t *first, uint16_t *second, size_t repeats)
 {
     uint64_t numbers[VOKHSAOT_KERNEL_NUMBERS];
     uint32_t code = 0;
     for (size_t n = 0; n < repeats; n++) {
-        code |= vokhsaot_kernel_matrix(shape[0], shape[1], shape[2], steps, numbers, VOKHSAOT_KERNEL_NUMBERS);
+        code |= vokhsaot_kernel_matrix_by(choice, shape[0], shape[1], shape[2], steps, numbers, VOKHSAOT_KERNEL_NUMBERS);
         for (uint32_t j = 0; j < steps; j++)
             one(j % 2 ? second : first, j % 2 ? first : second, width, height, numbers);
     }
     return code;
 }
 
-uint32_t plain(const int32_t *shape, uint32_t steps, uint32_t width, uint32_t height, uint16_t *first, uint16_t *second,
-               size_t repeats)
+uint32_t plain(uint32_t choice, const int32_t *shape, uint32_t steps, uint32_t width, uint32_t height, uint16_t *first,
+               uint16_t *second, size_t repeats)
 {
-    return run(plain_step, shape, steps, width, height, first, second, repeats);
+    return run(plain_step, choice, shape, steps, width, height, first, second, repeats);
 }
 
-uint32_t indexed(const int32_t *shape, uint32_t steps, uint32_t width, uint32_t height, uint16_t *first, uint16_t *second,
-                 size_t repeats)
+uint32_t indexed(uint32_t choice, const int32_t *shape, uint32_t steps, uint32_t width, uint32_t height, uint16_t *first,
+                 uint16_t *second, size_t repeats)
 {
-    return run(indexed_step, shape, steps, width, height, first, second, repeats);
+    return run(indexed_step, choice, shape, steps, width, height, first, second, repeats);
 }
 
-uint32_t buffered(const int32_t *shape, uint32_t steps, uint32_t width, uint32_t height, uint16_t *first, uint16_t *second,
-                  size_t repeats)
+uint32_t buffered(uint32_t choice, const int32_t *shape, uint32_t steps, uint32_t width, uint32_t height, uint16_t *first,
+                  uint16_t *second, size_t repeats)
 {
-    return run(buffered_step, shape, steps, width, height, first, second, repeats);
+    return run(buffered_step, choice, shape, steps, width, height, first, second, repeats);
 }
 
-uint32_t proved(const int32_t *shape, uint32_t steps, uint32_t width, uint32_t height, uint16_t *first, uint16_t *second,
-                size_t repeats)
+uint32_t proved(uint32_t choice, const int32_t *shape, uint32_t steps, uint32_t width, uint32_t height, uint16_t *first,
+                uint16_t *second, size_t repeats)
 {
     size_t size = (size_t)width * height;
     uint32_t code = 0;
     for (size_t n = 0; n < repeats; n++)
-        code |= vokhsaot_run_matrix(shape[0], shape[1], shape[2], steps, width, height, first, size, second, size);
+        code |= vokhsaot_run_matrix_by(choice, shape[0], shape[1], shape[2], steps, width, height, first, size, second, size);
+    return code;
+}
+
+/* Kernels alone: what a run works out once before its steps. */
+uint32_t kernels(uint32_t choice, const int32_t *shape, uint32_t steps, size_t repeats)
+{
+    uint64_t numbers[VOKHSAOT_KERNEL_NUMBERS];
+    uint32_t code = 0;
+    for (size_t n = 0; n < repeats; n++)
+        code |= vokhsaot_kernel_matrix_by(choice, shape[0], shape[1], shape[2], steps, numbers, VOKHSAOT_KERNEL_NUMBERS);
     return code;
 }
 

@@ -1,6 +1,7 @@
 #!/bin/sh
-# The benchmark: smoothing beside a plain C version, the five-multiplication C version at gcc -O3 and OpenCV's filter2D; ticks
-# of the service beside the bare step; job texts; growth with pixels, steps and jobs. Prints one table of ratios from one run.
+# The benchmark: smoothing beside a plain C version, the five-multiplication C version at gcc -O3 and OpenCV's filter2D, and by
+# both choices of a kernel; ticks of the service beside the bare step; job texts; growth with pixels, steps and jobs. Prints one
+# table of ratios from one run.
 #
 # usage: benchmarks/run.sh
 #

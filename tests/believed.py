@@ -19,7 +19,7 @@ INNER = {"row_core", "stepping", "slots", "buffers", "record_words", "job_printe
 
 # What the theorems say that no contract cites: crate, and the definition that a statement is made of.
 THEOREMS = [
-    ("kernel", "Weights"), ("kernel", "Sound"), ("averaging", "Distance"), ("averaging", "Entrywise"), ("averaging", "exactOf"),
+    ("kernel", "Weights"), ("kernel", "Sound"), ("kernel", "RatioOfTwo"), ("averaging", "Distance"), ("averaging", "Entrywise"), ("averaging", "exactOf"),
     ("averaging", "brightness"), ("averaging", "BrightSpots"), ("covariance", "WithinHalfUnit"), ("covariance", "alongX"), ("covariance", "alongY"),
     ("covariance", "covarianceNumber"), ("covariance", "covarianceValues"), ("differences", "CloseTo"),
     ("differences", "unitsPerStep"), ("differences", "IsWhole"), ("differences", "turnedBy"), ("job_printer", "GreatestDivisor"),

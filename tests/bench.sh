@@ -1,6 +1,7 @@
 #!/usr/bin/env bash
-# The bench program on standard input, against the independent program: document 01's listing byte for byte, every refusal,
-# reads that fail, the longest text and one byte more, in pieces, and generated texts, damaged ones included.
+# The bench program on standard input, against the independent program: document 01's listing with document 02's answer and the
+# other cases whose kernels S-2 speaks of byte for byte, every refusal, reads that fail, the longest text and one byte more, in
+# pieces, and generated texts, damaged ones included.
 # Usage: bench.sh PROGRAM [COUNT]
 set -eu
 cd "$(dirname "$0")/.."
@@ -19,8 +20,24 @@ expect() {
 }
 
 cp crates/bench/stdin "$work/text"
-printf 'K\t4\t0\t1\t0\t1\t0\t1\t0\t1\t0\nP\t3\t3\n0\t400\t0\n400\t0\t400\n0\t400\t0\n' >"$work/expected"
+printf 'K\t16\t1\t2\t1\t2\t4\t2\t1\t2\t1\nP\t3\t3\n100\t200\t100\n200\t400\t200\n100\t200\t100\n' >"$work/expected"
 expect "the listing"
+cmp "$work/expected" crates/bench/stdout || { echo "bench: the stored output"; exit 1; }
+
+# Stored answers: case e, whose f is 2049, over one bright pixel, worked out from document 02's weights; an odd half rounded up, f
+# 1026; cases c and i, whose f is as it was.
+kernels=0
+while IFS='|' read -r name text answer; do
+    printf '%b' "$text" >"$work/text"
+    printf '%b' "$answer" >"$work/expected"
+    expect "case $name"
+    kernels=$((kernels + 1))
+done <<'KERNELS'
+e|J\t4097\t0\t4096\t2\t3\t3\n0\t0\t0\n0\t32768\t0\n0\t0\t0\n|K\t32768\t2049\t4094\t2049\t4096\t8192\t4096\t2049\t4094\t2049\nP\t3\t3\n3200\t3839\t3200\n3840\t4608\t3840\n3200\t3839\t3200\n
+rounded up|J\t2049\t0\t2049\t1\t1\t1\n5\n|K\t8192\t513\t1023\t513\t1023\t2048\t1023\t513\t1023\t513\nP\t1\t1\n5\n
+c|J\t4096\t0\t4096\t1\t1\t1\n5\n|K\t4\t1\t0\t1\t0\t0\t0\t1\t0\t1\nP\t1\t1\n5\n
+i|J\t262144\t0\t0\t64\t1\t1\n5\n|K\t2\t0\t0\t0\t1\t0\t1\t0\t0\t0\nP\t1\t1\n5\n
+KERNELS
 
 refusals=0
 while IFS='|' read -r number text; do
@@ -73,5 +90,5 @@ for text in "$work"/texts/*.text; do
         cmp "$work/expected" "$work/out" || { echo "bench: $text in pieces"; exit 1; }
     fi
 done
-echo "bench: the listing, $refusals refusals, 4 reads that fail and $n texts"
+echo "bench: the listing, $kernels kernels, $refusals refusals, 4 reads that fail and $n texts"
 [ "$n" -ge "$count" ]

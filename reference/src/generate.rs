@@ -189,6 +189,37 @@ pub fn random_covariance(random: &mut Random) -> (Covariance, u32) {
     (covariance(xx, xy, yy), steps)
 }
 
+/// A covariance and a step count, mostly of a kernel whose two choices differ,
+/// close to where S-2's f goes over from one of its numbers to another: half
+/// of (xx + yy + max(xx, yy) − M), |xy|, and the smaller variance.
+pub fn random_half(random: &mut Random) -> (Covariance, u32) {
+    let any = random.between(1, 64) as u32;
+    let steps = random.pick(&[1, 1, 2, 64, any, any, any, any]);
+    let m = UNITS * i64::from(steps);
+    let near = random.between(-2, 2);
+    // With a third of M or less the half is not positive.
+    let large = random.between(m / 3, m);
+    let small = match random.below(6) {
+        // Here the half is the smaller variance.
+        0 => 2 * large - m + near,
+        1..=3 => large - near.abs(),
+        _ => random.between(0, large),
+    };
+    let half = (large + small + large - m) / 2;
+    let lean = match random.below(8) {
+        0 | 1 => half + near,
+        2 => small,
+        3..=5 => 0,
+        _ => random.between(0, small.max(0)),
+    };
+    let xy = lean * random.pick(&[-1, 1]);
+    if random.once_in(2) {
+        (covariance(large, xy, small), steps)
+    } else {
+        (covariance(small, xy, large), steps)
+    }
+}
+
 /// A positive finite float some places on among all floats.
 pub fn nudge(value: f64, places: i64) -> f64 {
     f64::from_bits((value.to_bits() as i64 + places) as u64)

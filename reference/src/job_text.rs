@@ -136,8 +136,8 @@ pub fn reduced(kernel: &Kernel) -> [u64; 10] {
     numbers.map(|number| number / divisor)
 }
 
-/// Runs a job between two pictures: its kernel and the picture after all
-/// steps; refusals 5, 6, 11.
+/// Runs a job between two pictures, its text naming no choice: its kernel and
+/// the picture after all steps; refusals 5, 6, 11.
 pub fn run_job(job: &Job) -> Result<(Kernel, Vec<u16>), ErrorCode> {
     let mut first = job.pixels.clone();
     let mut second = vec![0; job.pixels.len()];

@@ -49,6 +49,23 @@ pub struct Kernel {
     pub sum: u64,
 }
 
+/// Which free number f a kernel takes (document 02's S-2). Kernels exist for
+/// the same shapes by either choice.
+#[derive(Clone, Copy, Debug, Default, PartialEq, Eq)]
+pub enum Choice {
+    /// S-2's rule, for a caller who names no choice. Its name is that of the
+    /// paper's binomial kernel (equation 81), which it gives for case a and
+    /// which has twice the weight in the centre that it has beside it.
+    #[default]
+    Binomial,
+    /// Document 01's f, the smallest with which no weight is negative.
+    Smallest,
+}
+
+impl Choice {
+    pub const ALL: [Choice; 2] = [Choice::Binomial, Choice::Smallest];
+}
+
 /// The answer to "are there such weights?", with what shows it.
 #[derive(Clone, Copy, Debug, PartialEq, Eq)]
 pub enum Existence {
@@ -249,9 +266,26 @@ fn exists_as_before(xx: i64, xy: i64, yy: i64, m: i64) -> bool {
     })
 }
 
-/// The free number f: the larger of |xy| and xx + yy − m.
+/// The smallest free number f: the larger of |xy| and xx + yy − m.
 pub fn free_number(xx: i64, xy: i64, yy: i64, m: i64) -> i64 {
     xy.abs().max(xx + yy - m)
+}
+
+/// The free number f of a choice. S-2's is the largest of |xy|, xx + yy − m
+/// and half of (xx + yy + max(xx, yy) − m) rounded up, but never more than the
+/// smaller of xx and yy.
+pub fn free_number_by(choice: Choice, xx: i64, xy: i64, yy: i64, m: i64) -> i64 {
+    let smallest = free_number(xx, xy, yy, m);
+    match choice {
+        Choice::Smallest => smallest,
+        Choice::Binomial => {
+            let twice = xx + yy + xx.max(yy) - m;
+            // Euclid's quotient rounds a negative number down as well, so that
+            // with one more its half is rounded up.
+            let half = (twice + 1).div_euclid(2);
+            smallest.max(half).min(xx.min(yy))
+        }
+    }
 }
 
 /// The numbers f with which none of document 01's nine weights is negative; an
@@ -260,12 +294,8 @@ pub fn free_numbers(xx: i64, xy: i64, yy: i64, m: i64) -> RangeInclusive<i64> {
     free_number(xx, xy, yy, m)..=xx.min(yy)
 }
 
-/// The nine weights over 4 × m by document 01's formulas, whatever their signs.
-pub fn molecule(xx: i64, xy: i64, yy: i64, m: i64) -> [i64; 9] {
-    molecule_with(free_number(xx, xy, yy, m), xx, xy, yy, m)
-}
-
-/// The same formulas with any free number f.
+/// The nine weights over 4 × m by document 01's formulas with a free number f,
+/// whatever their signs.
 pub fn molecule_with(f: i64, xx: i64, xy: i64, yy: i64, m: i64) -> [i64; 9] {
     OFFSETS.map(|offset| match offset {
         (1, 1) | (-1, -1) => f + xy,
@@ -276,15 +306,22 @@ pub fn molecule_with(f: i64, xx: i64, xy: i64, yy: i64, m: i64) -> [i64; 9] {
     })
 }
 
-/// The kernel of a covariance divided evenly over the steps; refusals 5, 11.
+/// The kernel of a covariance divided evenly over the steps, for a caller who
+/// names no choice; refusals 5, 11.
 pub fn kernel(covariance: Covariance, steps: u32) -> Result<Kernel, ErrorCode> {
+    kernel_by(Choice::default(), covariance, steps)
+}
+
+/// The kernel by a choice; refusals 5, 11.
+pub fn kernel_by(choice: Choice, covariance: Covariance, steps: u32) -> Result<Kernel, ErrorCode> {
     check_steps(steps)?;
     let m = UNITS * i64::from(steps);
     let [xx, xy, yy] = [covariance.xx, covariance.xy, covariance.yy].map(i64::from);
     if !exists_as_before(xx, xy, yy, m) {
         return Err(NO_KERNEL);
     }
-    let weights = molecule(xx, xy, yy, m);
+    let f = free_number_by(choice, xx, xy, yy, m);
+    let weights = molecule_with(f, xx, xy, yy, m);
     debug_assert!(meets_definition(
         &weights.map(i128::from),
         4 * i128::from(m),

@@ -1,14 +1,14 @@
 //! Reference program for the picture smoother.
 //!
-//! It is written from document 01 (and, for [`extrema`], from document 02's
-//! S-1) alone and shares no code with the proved program, so that a mistake in
-//! one of them shows as a difference between the two. It prefers the plainest
+//! It is written from document 01 and from document 02's S-1 ([`extrema`]) and
+//! S-2 ([`kernel::Choice`]) alone and shares no code with the proved program, so
+//! that a mistake in one of them shows as a difference between the two. It prefers the plainest
 //! way to a result over the quickest one, and where document 01 gives both a
 //! definition and a shorter test it uses the definition (the existence of a
 //! kernel) and leaves the shorter test to the tests.
 //!
 //! - [`error_code`]: the thirteen numbered refusals and the checks several calls share.
-//! - [`kernel`]: does a kernel exist, and the nine weights of the molecule.
+//! - [`kernel`]: does a kernel exist, which f a choice takes, and the nine weights of the molecule.
 //! - [`shape`]: Matrix, Round and Oval to a covariance in 1/4096 square pixel.
 //! - [`smooth`]: the pixel at a place, a step, a run, the exact run and the distance from it.
 //! - [`extrema`]: peaks that do not rise, pictures that stay as close as they were.

@@ -1,12 +1,15 @@
 //! Demand 3 as a check of a running service: random lists of calls from one
 //! opening on, and every sentence of the demand, put together from the calls
 //! and their answers alone.
+//!
+//! A job's kernel is the smallest choice's of document 02's S-2, until S-3.
 
 use crate::error_code::ErrorCode;
 use crate::generate::{random_pixels, random_shape};
+use crate::kernel::{Choice, Kernel};
 use crate::random::Random;
 use crate::service::{self, Record, STORE_PIXELS};
-use crate::shape::{covariance, shape_kernel, Shape};
+use crate::shape::{covariance, shape_kernel_by, Shape};
 use crate::smooth::{exact_run, rounded_run, within_half_per_step};
 use std::collections::BTreeMap;
 
@@ -107,6 +110,13 @@ impl Job {
         )
     }
 
+    /// The kernel that its pixels are held to, which the sentences name
+    /// themselves and do not ask the service for: the smallest choice's until
+    /// S-3, when a submit can name another.
+    fn kernel(&self) -> Result<Kernel, ErrorCode> {
+        shape_kernel_by(Choice::Smallest, self.shape, self.steps)
+    }
+
     /// The refusal from 3 to 11 that its submit meets first, put together from
     /// the sentences one by one.
     fn refusal(&self) -> Option<ErrorCode> {
@@ -120,7 +130,7 @@ impl Job {
             (!(side_fits(self.width) && side_fits(self.height)), 6),
             (self.picture.len() as u64 != area, 9),
             (area > 1024, 10),
-            (shape_kernel(self.shape, self.steps).is_err(), 11),
+            (self.kernel().is_err(), 11),
         ];
         tests.iter().find(|test| test.0).map(|test| test.1)
     }
@@ -128,7 +138,7 @@ impl Job {
     /// What it was handed over is what it gets alone, within k/2 of the exact
     /// run, and what a service opened for it only hands over.
     fn check_handed_over<S: Calls>(&self, picture: &[u16], random: &mut Random) {
-        let kernel = shape_kernel(self.shape, self.steps).unwrap();
+        let kernel = self.kernel().unwrap();
         let alone = rounded_run(&kernel, &self.picture, self.width, self.height, self.steps);
         assert_eq!(picture, alone, "the lone run");
         let exact = exact_run(&kernel, &self.picture, self.width, self.height, self.steps);
@@ -181,7 +191,7 @@ impl Seen {
 pub fn random_work(random: &mut Random, most_steps: u32) -> (Shape, u32) {
     for _ in 0..20 {
         let (shape, steps) = random_shape(random);
-        if steps <= most_steps && shape_kernel(shape, steps).is_ok() {
+        if steps <= most_steps && shape_kernel_by(Choice::Smallest, shape, steps).is_ok() {
             return (shape, steps);
         }
     }

@@ -3,12 +3,15 @@
 //!
 //! Submit, tick and collect are lent the store and check its length with the
 //! record (refusal 2); withdraw and the free count are not lent it.
+//!
+//! Its jobs go by the smallest choice of document 02's S-2, until S-3 gives the
+//! record a field that can hold a choice.
 
 use crate::error_code::{
     check_length, check_sides, check_steps, require, ErrorCode, JOB_UNFINISHED, NO_FREE_BUFFERS,
     NUMBERS_EXHAUSTED, PICTURE_TOO_LARGE, SERVICE_NOT_IN_ORDER, UNKNOWN_JOB,
 };
-use crate::kernel::{kernel, Covariance};
+use crate::kernel::{kernel_by, Choice, Covariance};
 use crate::shape::{covariance, Shape};
 use crate::smooth::step;
 
@@ -20,6 +23,9 @@ pub const BUFFERS: usize = 16;
 pub const BUFFER_PIXELS: usize = 1024;
 /// Pixels in the pool.
 pub const STORE_PIXELS: usize = BUFFERS * BUFFER_PIXELS;
+
+/// The choice of every job of the service, until S-3.
+pub const CHOICE: Choice = Choice::Smallest;
 
 /// A slot of the record; all zero where it is empty.
 #[derive(Clone, Copy, Debug, Default, PartialEq, Eq)]
@@ -82,7 +88,7 @@ fn slot_fits(slot: &Slot) -> bool {
     check_steps(slot.steps).is_ok()
         && check_sides(slot.width, slot.height).is_ok()
         && slot.pixels() <= BUFFER_PIXELS
-        && kernel(slot.covariance(), slot.steps).is_ok()
+        && kernel_by(CHOICE, slot.covariance(), slot.steps).is_ok()
         && slot.steps_left <= slot.steps
 }
 
@@ -160,7 +166,7 @@ pub fn submit(
     check_sides(width, height)?;
     check_length(picture.len(), width, height)?;
     require(picture.len() <= BUFFER_PIXELS, PICTURE_TOO_LARGE)?;
-    kernel(covariance, steps)?;
+    kernel_by(CHOICE, covariance, steps)?;
     require(count_free(record) >= 2, NO_FREE_BUFFERS)?;
     let number = record.last_number.checked_add(1).ok_or(NUMBERS_EXHAUSTED)?;
 
@@ -190,7 +196,8 @@ pub fn tick(record: &mut Record, store: &mut [u16]) -> Result<Option<u64>, Error
         return Ok(None);
     };
     let slot = record.slots[i];
-    let kernel = kernel(slot.covariance(), slot.steps).expect("a filled slot has a kernel");
+    let kernel =
+        kernel_by(CHOICE, slot.covariance(), slot.steps).expect("a filled slot has a kernel");
     let done = slot.steps_done();
     let source = buffer_start(i, done);
     let target = buffer_start(i, done + 1);

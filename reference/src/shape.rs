@@ -5,7 +5,7 @@
 //! whole numbers on the exact value of the float.
 
 use crate::error_code::{require, ErrorCode, BAD_DIRECTION, BAD_VARIANCE};
-use crate::kernel::{kernel, Covariance, Kernel};
+use crate::kernel::{kernel_by, Choice, Covariance, Kernel};
 
 /// A direction: a cosine and a sine.
 #[derive(Clone, Copy, Debug)]
@@ -122,7 +122,12 @@ pub fn covariance(shape: Shape) -> Result<Covariance, ErrorCode> {
     }
 }
 
-/// The kernel of a shape; refusals 3, 4, 5, 11.
+/// The kernel of a shape, for a caller who names no choice; refusals 3, 4, 5, 11.
 pub fn shape_kernel(shape: Shape, steps: u32) -> Result<Kernel, ErrorCode> {
-    kernel(covariance(shape)?, steps)
+    shape_kernel_by(Choice::default(), shape, steps)
+}
+
+/// The kernel of a shape by a choice; refusals 3, 4, 5, 11.
+pub fn shape_kernel_by(choice: Choice, shape: Shape, steps: u32) -> Result<Kernel, ErrorCode> {
+    kernel_by(choice, covariance(shape)?, steps)
 }

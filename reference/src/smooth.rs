@@ -2,7 +2,7 @@
 //! exact run, and the distance between the two.
 
 use crate::error_code::{check_length, check_sides, check_steps, ErrorCode};
-use crate::kernel::{kernel, Kernel, OFFSETS};
+use crate::kernel::{kernel_by, Choice, Kernel, OFFSETS};
 use crate::natural::Natural;
 use crate::shape::{covariance, Shape};
 
@@ -66,9 +66,31 @@ pub fn rounded_run(
     })
 }
 
-/// A run between two lent pictures; refusals 3, 4, 5, 6, 9, 11. Afterwards the
-/// one that [`shown`] names holds step k and the other one step k − 1.
+/// A run between two lent pictures, for a caller who names no choice; refusals
+/// 3, 4, 5, 6, 9, 11. Afterwards the one that [`shown`] names holds step k and
+/// the other one step k − 1.
 pub fn run(
+    shape: Shape,
+    steps: u32,
+    width: u32,
+    height: u32,
+    first: &mut [u16],
+    second: &mut [u16],
+) -> Result<(), ErrorCode> {
+    run_by(
+        Choice::default(),
+        shape,
+        steps,
+        width,
+        height,
+        first,
+        second,
+    )
+}
+
+/// The same by a choice, with the same refusals.
+pub fn run_by(
+    choice: Choice,
     shape: Shape,
     steps: u32,
     width: u32,
@@ -81,7 +103,7 @@ pub fn run(
     check_sides(width, height)?;
     check_length(first.len(), width, height)?;
     check_length(second.len(), width, height)?;
-    let kernel = kernel(covariance, steps)?;
+    let kernel = kernel_by(choice, covariance, steps)?;
     let before = rounded_run(&kernel, first, width, height, steps - 1);
     let after = step(&kernel, &before, width, height);
     if steps.is_multiple_of(2) {

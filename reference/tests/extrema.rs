@@ -1,5 +1,6 @@
-//! Document 02's S-1 on random runs, rounded and exact, with every free number
-//! that a kernel may have; and steps with a fault, which the checks find.
+//! Document 02's S-1 on random runs, rounded and exact, with the free numbers of
+//! both choices and others that a kernel may have; and steps with a fault, which
+//! the checks find.
 
 use reference::extrema::{
     differ_at_most, enhanced, exact_differ_at_most, is_hollow, is_peak, neighbours,
@@ -8,7 +9,10 @@ use reference::extrema::{
 use reference::generate::{
     listed_covariances, pixels_within, random_covariance, random_gap, random_heights,
 };
-use reference::kernel::{free_numbers, kernel, molecule_with, Covariance, Kernel, OFFSETS, UNITS};
+use reference::kernel::{
+    free_number_by, free_numbers, kernel, kernel_by, molecule_with, Choice, Covariance, Kernel,
+    OFFSETS, UNITS,
+};
 use reference::natural::Natural;
 use reference::random::Random;
 use reference::smooth::{exact_start, exact_step, nearest, places, step};
@@ -25,31 +29,40 @@ impl Kernels {
         }
     }
 
-    /// A kernel that exists and its steps, with its own free number or with
-    /// another one between the two bounds: S-1 holds for all of them.
+    /// A kernel that exists and its steps, with the free number of a choice or
+    /// with another one between the two bounds: S-1 holds for all of them.
     fn pick(&self, random: &mut Random) -> (Kernel, u32) {
         loop {
             let (covariance, steps) = match random.below(2) {
                 0 => random.pick(&self.listed),
                 _ => random_covariance(random),
             };
-            let Ok(own) = kernel(covariance, steps) else {
+            let Ok(kernels) = by_each_choice(covariance, steps) else {
                 continue;
             };
             let m = UNITS * i64::from(steps);
             let [xx, xy, yy] = [covariance.xx, covariance.xy, covariance.yy].map(i64::from);
             let (least, most) = free_numbers(xx, xy, yy, m).into_inner();
             let any = random.between(least, most);
-            let f = random.pick(&[least, most, any]);
+            let [binomial, smallest] =
+                Choice::ALL.map(|choice| free_number_by(choice, xx, xy, yy, m));
+            let f = random.pick(&[binomial, smallest, most, any]);
             let found = Kernel {
                 weights: molecule_with(f, xx, xy, yy, m).map(|weight| weight.try_into().unwrap()),
                 sum: 4 * m as u64,
             };
             assert_eq!(found.weights.iter().sum::<u64>(), found.sum);
-            assert_eq!(found == own, f == least);
+            let same = kernels.map(|kernel| kernel == found);
+            assert_eq!(same, [f == binomial, f == smallest]);
             return (found, steps);
         }
     }
+}
+
+/// The kernel by each choice, or the refusal, which is the same.
+fn by_each_choice(covariance: Covariance, steps: u32) -> Result<[Kernel; 2], u8> {
+    let kernel = |choice| kernel_by(choice, covariance, steps);
+    Ok([kernel(Choice::Binomial)?, kernel(Choice::Smallest)?])
 }
 
 /// Sides: one pixel, single rows and columns, and small pictures.

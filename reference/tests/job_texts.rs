@@ -1,11 +1,12 @@
 //! The bench program's texts: what is a job, and what is printed.
 
 use reference::generate::{
-    damaged_text, longest_text, random_job, A_JOB, LEANING, TEXTS_THAT_ARE_NO_JOBS,
+    damaged_text, longest_text, random_half, random_job, A_JOB, LEANING, TEXTS_THAT_ARE_NO_JOBS,
 };
 use reference::job_text::{answer, gcd, parse, print, reduced, run_job, Job, MAX_TEXT};
-use reference::kernel::kernel;
+use reference::kernel::{kernel, kernel_by, Choice};
 use reference::random::Random;
+use reference::smooth::rounded_run;
 
 fn refusal(text: &[u8]) -> Option<u8> {
     let printed = String::from_utf8(answer(text)).unwrap();
@@ -107,6 +108,38 @@ fn printed_jobs_are_read_back() {
             Err(number) => assert_eq!(printed, format!("R\t{number}\n").into_bytes()),
         }
     }
+}
+
+/// A text names no choice: kernel line and pixels are both by S-2's rule.
+#[test]
+fn jobs_go_by_the_rule_of_s_2() {
+    let mut random = Random::new(12);
+    let (mut accepted, mut differ) = (0, 0);
+    for _ in 0..3000 {
+        let (covariance, steps) = random_half(&mut random);
+        let (width, height) = (random.between(1, 5) as u32, random.between(1, 5) as u32);
+        let pixels = (0..width * height).map(|_| random.bits() as u16).collect();
+        let job = Job {
+            covariance,
+            steps,
+            width,
+            height,
+            pixels,
+        };
+        let by = |choice| {
+            kernel_by(choice, covariance, steps).map(|kernel| {
+                let after = rounded_run(&kernel, &job.pixels, width, height, steps);
+                (kernel, after)
+            })
+        };
+        let expected = by(Choice::Binomial);
+        assert_eq!(run_job(&job), expected, "{covariance:?} {steps}");
+        if let (Ok((kernel, after)), Ok((other, other_after))) = (expected, by(Choice::Smallest)) {
+            accepted += 1;
+            differ += u32::from(kernel != other && after != other_after);
+        }
+    }
+    assert!(accepted > 2000 && differ > 800, "{accepted} {differ}");
 }
 
 /// One byte changed, left out or added: what is still read is printed back

@@ -2,8 +2,8 @@
 
 use reference::generate::{listed_covariances, random_covariance};
 use reference::kernel::{
-    excludes, existence, exists, free_number, kernel, meets_definition, molecule, Covariance,
-    Existence, OFFSETS, UNITS,
+    excludes, existence, exists, free_number, free_number_by, kernel_by, meets_definition,
+    molecule_with, Choice, Covariance, Existence, OFFSETS, UNITS,
 };
 use reference::random::Random;
 
@@ -24,12 +24,15 @@ fn compare(xx: i64, xy: i64, yy: i64, m: i64) -> bool {
     assert_eq!(found, short_test(xx, xy, yy, m), "{xx} {xy} {yy} {m}");
     // "|xy| at most the smaller variance, and the steps enough"
     assert_eq!(found, xy.abs() <= xx.min(yy) && xx.max(yy) <= m);
-    // The molecule's weights serve exactly then.
-    let weights = molecule(xx, xy, yy, m).map(i128::from);
-    assert_eq!(
-        found,
-        meets_definition(&weights, 4 * i128::from(m), xx, xy, yy, m)
-    );
+    // The molecule's weights serve exactly then, by either choice.
+    for choice in Choice::ALL {
+        let f = free_number_by(choice, xx, xy, yy, m);
+        let weights = molecule_with(f, xx, xy, yy, m).map(i128::from);
+        assert_eq!(
+            found,
+            meets_definition(&weights, 4 * i128::from(m), xx, xy, yy, m)
+        );
+    }
     found
 }
 
@@ -57,13 +60,14 @@ fn real_sizes_around_the_borders() {
         .collect();
     for (covariance, steps) in listed_covariances().into_iter().chain(random_ones) {
         let Covariance { xx, xy, yy } = covariance;
+        let refusals = Choice::ALL.map(|choice| kernel_by(choice, covariance, steps).err());
         if (1..=64).contains(&steps) {
             let m = UNITS * i64::from(steps);
             let found = compare(xx.into(), xy.into(), yy.into(), m);
             counts[usize::from(found)] += 1;
-            assert_eq!(kernel(covariance, steps).err(), (!found).then_some(11));
+            assert_eq!(refusals, [(!found).then_some(11); 2]);
         } else {
-            assert_eq!(kernel(covariance, steps).err(), Some(5));
+            assert_eq!(refusals, [Some(5); 2]);
         }
     }
     assert!(counts.iter().all(|count| *count > 10_000), "{counts:?}");
@@ -113,10 +117,12 @@ fn refusal_five_comes_before_eleven() {
         xy: 0,
         yy: 0,
     };
-    for steps in [0, 65, u32::MAX] {
-        assert_eq!(kernel(none, steps).err(), Some(5));
-    }
-    for steps in [1, 64] {
-        assert_eq!(kernel(none, steps).err(), Some(11));
+    for choice in Choice::ALL {
+        for steps in [0, 65, u32::MAX] {
+            assert_eq!(kernel_by(choice, none, steps).err(), Some(5));
+        }
+        for steps in [1, 64] {
+            assert_eq!(kernel_by(choice, none, steps).err(), Some(11));
+        }
     }
 }

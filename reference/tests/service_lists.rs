@@ -1,13 +1,13 @@
 //! The service: lists of calls against the sentences of demand 3, and single
 //! calls on records of every kind.
 
-use reference::kernel::kernel;
+use reference::kernel::{kernel_by, Choice, Covariance};
 use reference::lists::{check_list, Model, Seen};
 use reference::random::Random;
 use reference::service::{
     collect, free_count, in_order, opening, submit, tick, withdraw, Record, Slot, STORE_PIXELS,
 };
-use reference::shape::{shape_kernel, Shape};
+use reference::shape::{shape_kernel_by, Shape};
 use reference::smooth::rounded_run;
 
 #[test]
@@ -76,11 +76,14 @@ fn a_tick_is_one_step_from_buffer_to_buffer() {
     let picture = [0, 0, 0, 0, 1600, 0, 0, 0, 0];
     record.last_filled = 4;
     record.last_served = 2;
+    // A shape whose two choices differ.
+    let shape = Shape::Round(1.0);
+    let [other, half] = Choice::ALL.map(|choice| shape_kernel_by(choice, shape, 2).unwrap());
+    assert_ne!(half, other);
     assert_eq!(
-        submit(&mut record, &mut store, GOOD, 2, 3, 3, &picture),
+        submit(&mut record, &mut store, shape, 2, 3, 3, &picture),
         Ok(1)
     );
-    let half = shape_kernel(GOOD, 2).unwrap();
     let mut expected = vec![500; STORE_PIXELS];
     expected[10 * 1024..10 * 1024 + 9].copy_from_slice(&picture);
     assert_eq!(store, expected);
@@ -94,6 +97,27 @@ fn a_tick_is_one_step_from_buffer_to_buffer() {
     }
     assert_eq!(tick(&mut record, &mut store), Ok(None));
     assert_eq!(store, expected);
+}
+
+/// Case a by the service: document 01's pixels and not document 02's, since a
+/// record holds no choice before S-3.
+#[test]
+fn jobs_go_by_the_smallest_choice() {
+    let mut record = opening();
+    let mut store = vec![0; STORE_PIXELS];
+    let mut picture = [0, 0, 0, 0, 1600, 0, 0, 0, 0];
+    for (number, shape) in [(1, Shape::matrix(2048, 0, 2048)), (2, GOOD)] {
+        let answer = submit(&mut record, &mut store, shape, 1, 3, 3, &picture);
+        assert_eq!(answer, Ok(number));
+    }
+    for number in [1, 2] {
+        assert_eq!(tick(&mut record, &mut store), Ok(Some(number)));
+    }
+    for number in [1, 2] {
+        let answer = collect(&mut record, &store, number, &mut picture);
+        assert_eq!(answer, Ok(number));
+        assert_eq!(picture, [0, 400, 0, 400, 0, 400, 0, 400, 0]);
+    }
 }
 
 /// A name, a change to a record in order, and whether it is in order after it.
@@ -264,7 +288,12 @@ fn the_last_refusals_of_submit() {
 fn any_record_in_order_is_served() {
     let mut record = opening();
     let mut store: Vec<u16> = (0..STORE_PIXELS).map(|place| place as u16).collect();
-    record.slots[6] = filled(40);
+    // Two thirds of the largest variance of three steps: the choices differ.
+    record.slots[6] = Slot {
+        xx: 8192,
+        yy: 8192,
+        ..filled(40)
+    };
     record.last_number = 50;
     assert_eq!(free_count(&record), Ok(14));
     assert_eq!(collect(&mut record, &store, 40, &mut [0; 20]), Err(8));
@@ -272,15 +301,13 @@ fn any_record_in_order_is_served() {
     assert_eq!(withdraw(&mut record, 0), Err(7));
     // One of three steps is done: the current picture is in buffer 13.
     let slot = record.slots[6];
-    let kernel = kernel(
-        reference::kernel::Covariance {
-            xx: slot.xx,
-            xy: slot.xy,
-            yy: slot.yy,
-        },
-        3,
-    )
-    .unwrap();
+    let covariance = Covariance {
+        xx: slot.xx,
+        xy: slot.xy,
+        yy: slot.yy,
+    };
+    let [other, kernel] = Choice::ALL.map(|choice| kernel_by(choice, covariance, 3).unwrap());
+    assert_ne!(kernel, other);
     let picture = store[13 * 1024..13 * 1024 + 20].to_vec();
     assert_eq!(tick(&mut record, &mut store), Ok(Some(40)));
     let after = rounded_run(&kernel, &picture, 4, 5, 1);

@@ -1,13 +1,14 @@
-//! Runs between two pictures, the exact run, and the differences of both.
+//! Runs between two pictures, the exact run, and the differences of both, by
+//! either choice of a kernel.
 
 use reference::difference::{difference, difference_stays_within, directional, Difference};
-use reference::generate::{random_covariance, LEANING};
-use reference::kernel::{kernel, Covariance, Kernel, UNITS};
+use reference::generate::{random_covariance, random_half, LEANING};
+use reference::kernel::{kernel, kernel_by, Choice, Covariance, Kernel, UNITS};
 use reference::natural::Natural;
 use reference::random::Random;
 use reference::shape::{Direction, Shape};
 use reference::smooth::{
-    exact_run, exact_start, nearest, read, rounded_run, run, run_stays_within, shown, step,
+    exact_run, exact_start, nearest, read, rounded_run, run_by, run_stays_within, shown, step,
     within_half_per_step,
 };
 
@@ -23,14 +24,26 @@ fn random_picture(random: &mut Random, length: usize) -> Vec<u16> {
         .collect()
 }
 
-/// A covariance with its kernel.
-fn random_kernel(random: &mut Random) -> (Covariance, u32, Kernel) {
+/// A covariance with its kernel by a choice.
+fn random_kernel(random: &mut Random, choice: Choice) -> (Covariance, u32, Kernel) {
     loop {
-        let (covariance, steps) = random_covariance(random);
-        if let Ok(kernel) = kernel(covariance, steps) {
+        let (covariance, steps) = if random.once_in(2) {
+            random_half(random)
+        } else {
+            random_covariance(random)
+        };
+        if let Ok(kernel) = kernel_by(choice, covariance, steps) {
             return (covariance, steps, kernel);
         }
     }
+}
+
+/// The choices in turn, so many times each.
+fn choices(times: usize) -> impl Iterator<Item = Choice> {
+    Choice::ALL
+        .into_iter()
+        .cycle()
+        .take(times * Choice::ALL.len())
 }
 
 #[test]
@@ -85,8 +98,8 @@ fn the_lean_of_a_step() {
 #[test]
 fn both_buffers_after_a_run() {
     let mut random = Random::new(4);
-    for _ in 0..300 {
-        let (covariance, steps, kernel) = random_kernel(&mut random);
+    for choice in choices(300) {
+        let (covariance, steps, kernel) = random_kernel(&mut random, choice);
         let width = random.between(1, 7) as u32;
         let height = random.between(1, 7) as u32;
         let length = (width * height) as usize;
@@ -95,7 +108,7 @@ fn both_buffers_after_a_run() {
         let mut second = random_picture(&mut random, length);
         let shape = Shape::Matrix(covariance);
         assert_eq!(
-            run(shape, steps, width, height, &mut first, &mut second),
+            run_by(choice, shape, steps, width, height, &mut first, &mut second),
             Ok(())
         );
         let after = rounded_run(&kernel, &picture, width, height, steps);
@@ -140,22 +153,21 @@ fn run_refusals_in_order() {
         (none, 1, 2, 2, 5, 4, 9),
         (none, 1, 2, 2, 4, 4, 11),
     ] {
-        let mut first = vec![7; first_length];
-        let mut second = vec![8; second_length];
-        assert_eq!(
-            run(shape, steps, width, height, &mut first, &mut second),
-            Err(refusal)
-        );
-        assert_eq!(first, vec![7; first_length]);
-        assert_eq!(second, vec![8; second_length]);
+        for choice in Choice::ALL {
+            let (mut first, mut second) = (vec![7; first_length], vec![8; second_length]);
+            let lent = (first.clone(), second.clone());
+            let answer = run_by(choice, shape, steps, width, height, &mut first, &mut second);
+            assert_eq!(answer, Err(refusal));
+            assert_eq!((first, second), lent);
+        }
     }
 }
 
 #[test]
 fn rounded_runs_stay_within_half_a_unit_per_step() {
     let mut random = Random::new(5);
-    for _ in 0..150 {
-        let (_, steps, kernel) = random_kernel(&mut random);
+    for choice in choices(150) {
+        let (_, steps, kernel) = random_kernel(&mut random, choice);
         let width = random.between(1, 6) as u32;
         let height = random.between(1, 6) as u32;
         let picture = random_picture(&mut random, (width * height) as usize);
@@ -191,7 +203,7 @@ fn the_distance_is_tight() {
 #[test]
 fn the_exact_run_keeps_the_total_without_a_lean() {
     let mut random = Random::new(6);
-    for _ in 0..60 {
+    for choice in choices(60) {
         let steps = random.between(1, 12) as u32;
         let m = UNITS * i64::from(steps);
         let covariance = Covariance {
@@ -199,7 +211,7 @@ fn the_exact_run_keeps_the_total_without_a_lean() {
             xy: 0,
             yy: random.between(0, m) as i32,
         };
-        let kernel = kernel(covariance, steps).unwrap();
+        let kernel = kernel_by(choice, covariance, steps).unwrap();
         let width = random.between(1, 5) as u32;
         let height = random.between(1, 5) as u32;
         let picture = random_picture(&mut random, (width * height) as usize);
@@ -308,8 +320,8 @@ fn axis_directions_are_exact() {
 #[test]
 fn differences_stay_within_their_distances() {
     let mut random = Random::new(8);
-    for _ in 0..80 {
-        let (_, steps, kernel) = random_kernel(&mut random);
+    for choice in choices(80) {
+        let (_, steps, kernel) = random_kernel(&mut random, choice);
         let width = random.between(1, 6) as u32;
         let height = random.between(1, 6) as u32;
         let picture = random_picture(&mut random, (width * height) as usize);

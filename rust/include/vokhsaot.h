@@ -58,6 +58,21 @@ enum {
     VOKHSAOT_NUMBERS_USED_UP = 13
 };
 
+/*
+ * The choice of a kernel: the first parameter of every call whose name ends in _by. The weights' formulas leave one number f free
+ * between two bounds, the larger of |xy| and xx + yy - M, and the smaller of xx and yy, where M is 4096 times the steps.
+ * VOKHSAOT_BINOMIAL takes the largest of |xy|, xx + yy - M and half of (xx + yy + max(xx, yy) - M) rounded up, but never more
+ * than the upper bound, so that the centre has at least twice the weight of each of its four nearest neighbours wherever some f
+ * gives it that. VOKHSAOT_SMALLEST takes the lower bound; such a kernel can have the weight 0 in the centre. Kernels exist for
+ * the same shapes and the refusals are the same. A number other than these two is read as VOKHSAOT_BINOMIAL.
+ *
+ * The calls of the same names without _by take no choice and go by VOKHSAOT_BINOMIAL. They are defined in this header, over the
+ * calls with one; the library does not export them. An object that was compiled with the header from before the choice therefore
+ * does not link, where it would otherwise pass its arguments one place off. Compiled again, its source as it is goes by
+ * VOKHSAOT_BINOMIAL.
+ */
+enum { VOKHSAOT_BINOMIAL = 0, VOKHSAOT_SMALLEST = 1 };
+
 /* ---- Shapes and kernels. */
 
 /*
@@ -71,18 +86,34 @@ uint32_t vokhsaot_covariance_oval(double along, double across, double cosine, do
                                   size_t entries_len);
 
 /*
- * The kernel of a shape and a step count: writes the weights' sum, and then the nine weights by row and by column, offset -1
- * first in each; y grows with the row number. Refusals 3, 4, 5, 9 where there are not VOKHSAOT_KERNEL_NUMBERS numbers, 11.
- * The shape is a covariance matrix in 1/4096 square pixel,
+ * The kernel of a shape and a step count by a choice: writes the weights' sum, and then the nine weights by row and by column,
+ * offset -1 first in each; y grows with the row number. Refusals 3, 4, 5, 9 where there are not VOKHSAOT_KERNEL_NUMBERS
+ * numbers, 11. The shape is a covariance matrix in 1/4096 square pixel,
  */
-uint32_t vokhsaot_kernel_matrix(int32_t xx, int32_t xy, int32_t yy, uint32_t steps, uint64_t *numbers, size_t numbers_len);
+uint32_t vokhsaot_kernel_matrix_by(uint32_t choice, int32_t xx, int32_t xy, int32_t yy, uint32_t steps, uint64_t *numbers,
+                                   size_t numbers_len);
 
 /* or one variance in square pixels (floats), */
-uint32_t vokhsaot_kernel_round(double variance, uint32_t steps, uint64_t *numbers, size_t numbers_len);
+uint32_t vokhsaot_kernel_round_by(uint32_t choice, double variance, uint32_t steps, uint64_t *numbers, size_t numbers_len);
 
 /* or the variances along and across a direction (floats). */
-uint32_t vokhsaot_kernel_oval(double along, double across, double cosine, double sine, uint32_t steps, uint64_t *numbers,
-                              size_t numbers_len);
+uint32_t vokhsaot_kernel_oval_by(uint32_t choice, double along, double across, double cosine, double sine, uint32_t steps,
+                                 uint64_t *numbers, size_t numbers_len);
+
+/* The three for a caller who names no choice. */
+static inline uint32_t vokhsaot_kernel_matrix(int32_t xx, int32_t xy, int32_t yy, uint32_t steps, uint64_t *numbers,
+                                              size_t numbers_len) {
+    return vokhsaot_kernel_matrix_by(VOKHSAOT_BINOMIAL, xx, xy, yy, steps, numbers, numbers_len);
+}
+
+static inline uint32_t vokhsaot_kernel_round(double variance, uint32_t steps, uint64_t *numbers, size_t numbers_len) {
+    return vokhsaot_kernel_round_by(VOKHSAOT_BINOMIAL, variance, steps, numbers, numbers_len);
+}
+
+static inline uint32_t vokhsaot_kernel_oval(double along, double across, double cosine, double sine, uint32_t steps,
+                                            uint64_t *numbers, size_t numbers_len) {
+    return vokhsaot_kernel_oval_by(VOKHSAOT_BINOMIAL, along, across, cosine, sine, steps, numbers, numbers_len);
+}
 
 /* ---- Pictures: width times height pixels, row after row. */
 
@@ -93,25 +124,45 @@ uint32_t vokhsaot_pixel(const uint16_t *pixels, size_t pixels_len, uint32_t widt
                         int32_t row, uint16_t *pixel);
 
 /*
- * A run of so many steps between two pictures of width times height pixels, starting in the first. Afterwards the first holds
- * the last step where steps is even, else the second does; the other holds the step before. Refusals 3, 4, 5, 6, 9, 11.
+ * A run of so many steps by a choice, between two pictures of width times height pixels, starting in the first. Afterwards the
+ * first holds the last step where steps is even, else the second does; the other holds the step before. Refusals 3, 4, 5, 6, 9,
+ * 11.
  *
  * In each step a pixel that is at least as large as each of its up to eight neighbours inside the picture does not rise, and
  * one that is at most as large does not fall; after the call the two pictures are the last step's, before and after it. Two
- * pictures of equal sides that differ by at most d at each pixel still do after runs of one shape and step count.
+ * pictures of equal sides that differ by at most d at each pixel still do after runs of one shape, step count and choice.
  *
  * The shape is a covariance matrix in 1/4096 square pixel,
  */
-uint32_t vokhsaot_run_matrix(int32_t xx, int32_t xy, int32_t yy, uint32_t steps, uint32_t width, uint32_t height,
-                             uint16_t *first, size_t first_len, uint16_t *second, size_t second_len);
+uint32_t vokhsaot_run_matrix_by(uint32_t choice, int32_t xx, int32_t xy, int32_t yy, uint32_t steps, uint32_t width,
+                                uint32_t height, uint16_t *first, size_t first_len, uint16_t *second, size_t second_len);
 
 /* or one variance in square pixels (floats), */
-uint32_t vokhsaot_run_round(double variance, uint32_t steps, uint32_t width, uint32_t height, uint16_t *first,
-                            size_t first_len, uint16_t *second, size_t second_len);
+uint32_t vokhsaot_run_round_by(uint32_t choice, double variance, uint32_t steps, uint32_t width, uint32_t height,
+                               uint16_t *first, size_t first_len, uint16_t *second, size_t second_len);
 
 /* or the variances along and across a direction (floats). */
-uint32_t vokhsaot_run_oval(double along, double across, double cosine, double sine, uint32_t steps, uint32_t width,
-                           uint32_t height, uint16_t *first, size_t first_len, uint16_t *second, size_t second_len);
+uint32_t vokhsaot_run_oval_by(uint32_t choice, double along, double across, double cosine, double sine, uint32_t steps,
+                              uint32_t width, uint32_t height, uint16_t *first, size_t first_len, uint16_t *second,
+                              size_t second_len);
+
+/* The three for a caller who names no choice. */
+static inline uint32_t vokhsaot_run_matrix(int32_t xx, int32_t xy, int32_t yy, uint32_t steps, uint32_t width, uint32_t height,
+                                           uint16_t *first, size_t first_len, uint16_t *second, size_t second_len) {
+    return vokhsaot_run_matrix_by(VOKHSAOT_BINOMIAL, xx, xy, yy, steps, width, height, first, first_len, second, second_len);
+}
+
+static inline uint32_t vokhsaot_run_round(double variance, uint32_t steps, uint32_t width, uint32_t height, uint16_t *first,
+                                          size_t first_len, uint16_t *second, size_t second_len) {
+    return vokhsaot_run_round_by(VOKHSAOT_BINOMIAL, variance, steps, width, height, first, first_len, second, second_len);
+}
+
+static inline uint32_t vokhsaot_run_oval(double along, double across, double cosine, double sine, uint32_t steps,
+                                         uint32_t width, uint32_t height, uint16_t *first, size_t first_len,
+                                         uint16_t *second, size_t second_len) {
+    return vokhsaot_run_oval_by(VOKHSAOT_BINOMIAL, along, across, cosine, sine, steps, width, height, first, first_len, second,
+                                second_len);
+}
 
 /*
  * Undivided differences of a picture L, into a result of width times height entries. Refusals 6 and 9.
@@ -167,8 +218,9 @@ uint32_t vokhsaot_answer_text(const uint8_t *text, size_t text_len, uint8_t *out
 uint32_t vokhsaot_opening(uint64_t *words, size_t words_len);
 
 /*
- * Submit: takes a picture of width times height pixels into a free seat, and writes the new job's number. Refusals 2, 3, 4,
- * 5, 6, 9, 10, 11, 12, 13. The shape is a covariance matrix in 1/4096 square pixel,
+ * Submit: takes a picture of width times height pixels into a free seat, and writes the new job's number. Its steps go by
+ * VOKHSAOT_SMALLEST, as do all jobs of the service until its record can hold a choice. Refusals 2, 3, 4, 5, 6, 9, 10, 11, 12,
+ * 13. The shape is a covariance matrix in 1/4096 square pixel,
  */
 uint32_t vokhsaot_submit_matrix(uint64_t *words, size_t words_len, uint16_t *store, size_t store_len, int32_t xx, int32_t xy,
                                 int32_t yy, uint32_t steps, uint32_t width, uint32_t height, const uint16_t *pixels,

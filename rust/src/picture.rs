@@ -2,7 +2,7 @@
 
 use crate::error::{outcome, Error};
 use crate::exported;
-use crate::shape::{Direction, Shape};
+use crate::shape::{Choice, Direction, Shape};
 
 /// One of the five undivided differences.
 #[derive(Clone, Copy, Debug, PartialEq, Eq, Hash)]
@@ -38,12 +38,12 @@ pub fn pixel(pixels: &[u16], width: u32, height: u32, column: i32, row: i32) -> 
     Ok(found)
 }
 
-/// A run of `steps` steps between two lent pictures, starting in the first. [`shown`] is the one with the last step; the
-/// other holds the step before. Refusals 3, 4, 5, 6, 9 and 11.
+/// A run of `steps` steps between two lent pictures, starting in the first, by [`Choice::Binomial`]. [`shown`] is the one with
+/// the last step; the other holds the step before. Refusals 3, 4, 5, 6, 9 and 11.
 ///
 /// In each step a pixel that is at least as large as each of its up to eight neighbours inside the picture does not rise, and
 /// one that is at most as large does not fall; after the call the two pictures are the last step's, before and after it. Two
-/// pictures of equal sides that differ by at most d at each pixel still do after runs of one shape and step count.
+/// pictures of equal sides that differ by at most d at each pixel still do after runs of one shape, step count and choice.
 pub fn run(
     shape: Shape,
     steps: u32,
@@ -52,23 +52,45 @@ pub fn run(
     first: &mut [u16],
     second: &mut [u16],
 ) -> Result<(), Error> {
+    run_by(
+        Choice::default(),
+        shape,
+        steps,
+        width,
+        height,
+        first,
+        second,
+    )
+}
+
+/// The same run by the kernel of a choice, with the same refusals.
+pub fn run_by(
+    choice: Choice,
+    shape: Shape,
+    steps: u32,
+    width: u32,
+    height: u32,
+    first: &mut [u16],
+    second: &mut [u16],
+) -> Result<(), Error> {
+    let choice = choice.number();
     let (one, one_len) = (first.as_mut_ptr(), first.len());
     let (two, two_len) = (second.as_mut_ptr(), second.len());
     // SAFETY: each pointer stands with the length of its own slice, and the two do not overlap.
     outcome(unsafe {
         match shape {
-            Shape::Matrix { xx, xy, yy } => exported::vokhsaot_run_matrix(
-                xx, xy, yy, steps, width, height, one, one_len, two, two_len,
+            Shape::Matrix { xx, xy, yy } => exported::vokhsaot_run_matrix_by(
+                choice, xx, xy, yy, steps, width, height, one, one_len, two, two_len,
             ),
-            Shape::Round(variance) => exported::vokhsaot_run_round(
-                variance, steps, width, height, one, one_len, two, two_len,
+            Shape::Round(variance) => exported::vokhsaot_run_round_by(
+                choice, variance, steps, width, height, one, one_len, two, two_len,
             ),
             Shape::Oval {
                 long,
                 short,
                 direction: Direction { cosine, sine },
-            } => exported::vokhsaot_run_oval(
-                long, short, cosine, sine, steps, width, height, one, one_len, two, two_len,
+            } => exported::vokhsaot_run_oval_by(
+                choice, long, short, cosine, sine, steps, width, height, one, one_len, two, two_len,
             ),
         }
     })

@@ -57,7 +57,8 @@ impl Service {
         &self.store
     }
 
-    /// Submits a job and answers its number.
+    /// Submits a job and answers its number. Its steps go by [`Choice::Smallest`](crate::Choice::Smallest), as do all jobs of the
+    /// service until its record can hold a choice.
     pub fn submit(
         &mut self,
         shape: Shape,

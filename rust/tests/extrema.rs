@@ -4,13 +4,13 @@
 
 mod common;
 
-use common::{inputs, shape_of, times};
+use common::{inputs, shape_of, times, CHOICES};
 use reference::extrema::{differ_at_most, enhanced, is_hollow, is_peak, stays_between};
 use reference::generate::{pixels_within, random_gap, random_heights, random_pixels, random_shape};
 use reference::random::Random;
 use reference::shape::shape_kernel;
 use reference::smooth::places;
-use vokhsaot::{run, shown, Service, Shape, BUFFER_PIXELS, SEATS, STORE_PIXELS};
+use vokhsaot::{run_by, shown, Choice, Service, Shape, BUFFER_PIXELS, SEATS, STORE_PIXELS};
 
 /// A shape with a kernel, and its steps.
 fn work(random: &mut Random) -> (Shape, u32) {
@@ -50,13 +50,43 @@ impl Seen {
     }
 }
 
-/// The library's run: its picture after one step less than all, and after all.
-fn last_two(shape: Shape, steps: u32, width: u32, height: u32, start: &[u16]) -> [Vec<u16>; 2] {
-    let (mut first, mut second) = (start.to_vec(), vec![0; start.len()]);
-    run(shape, steps, width, height, &mut first, &mut second).unwrap();
-    let last = shown(steps, &first, &second).to_vec();
-    let before = shown(steps + 1, &first, &second).to_vec();
-    [before, last]
+/// A run of the library that is one of a pair.
+#[derive(Clone, Copy, Debug)]
+struct Run {
+    choice: Choice,
+    shape: Shape,
+    steps: u32,
+    width: u32,
+    height: u32,
+}
+
+impl Run {
+    /// Its picture after one step less than all, and after all.
+    fn last_two(&self, start: &[u16]) -> [Vec<u16>; 2] {
+        let Run {
+            choice,
+            shape,
+            steps,
+            width,
+            height,
+        } = *self;
+        let (mut first, mut second) = (start.to_vec(), vec![0; start.len()]);
+        run_by(choice, shape, steps, width, height, &mut first, &mut second).unwrap();
+        let last = shown(steps, &first, &second).to_vec();
+        let before = shown(steps + 1, &first, &second).to_vec();
+        [before, last]
+    }
+
+    /// The laws of the last step, and of the run's two pictures that differ by at most `gap`, both by its one choice.
+    fn check(&self, start: &[u16], other: &[u16], gap: u16, seen: &mut Seen) {
+        let name = format!("{self:?}");
+        let [before, last] = self.last_two(start);
+        seen.check(&before, &last, self.width, self.height, &name);
+        assert!(stays_between(start, &before), "{name}");
+        let [other_before, other_last] = self.last_two(other);
+        assert!(differ_at_most(&before, &other_before, gap.into()), "{name}");
+        assert!(differ_at_most(&last, &other_last, gap.into()), "{name}");
+    }
 }
 
 #[test]
@@ -69,13 +99,16 @@ fn runs() {
         let start = random_heights(&mut random, width, height);
         let gap = random_gap(&mut random);
         let other = pixels_within(&mut random, &start, gap);
-        let name = format!("{shape:?} {steps} {width} {height}");
-        let [before, last] = last_two(shape, steps, width, height, &start);
-        seen.check(&before, &last, width, height, &name);
-        assert!(stays_between(&start, &before), "{name}");
-        let [other_before, other_last] = last_two(shape, steps, width, height, &other);
-        assert!(differ_at_most(&before, &other_before, gap.into()), "{name}");
-        assert!(differ_at_most(&last, &other_last, gap.into()), "{name}");
+        for (choice, _) in CHOICES {
+            let run = Run {
+                choice,
+                shape,
+                steps,
+                width,
+                height,
+            };
+            run.check(&start, &other, gap, &mut seen);
+        }
     }
     assert!(seen.peaks > 10_000 && seen.hollows > 10_000, "{seen:?}");
 }

@@ -1,5 +1,5 @@
 #!/usr/bin/env python3
-"""Eleven faults, one at a time, in a copy of the independent program: the comparison has to find each.
+"""Twenty-one faults, one at a time, in a copy of the independent program: the comparison has to find each.
 
 Usage: faults.py FOLDER, the folder that has libcapi.a. A fault counts as found where the test named beside it fails at a
 comparison, in one of the test files or in the sentences of demand 3; a fault that the copy finds in itself does not.
@@ -12,6 +12,11 @@ import shutil
 import subprocess
 import sys
 import tempfile
+
+# The two choices, with the one for a caller who names none, right and wrong.
+SMALLEST = "    /// Document 01's f, the smallest with which no weight is negative.\n"
+DEFAULT = "    #[default]\n    Binomial,\n" + SMALLEST + "    Smallest,\n"
+DEFAULT_SMALLEST = "    Binomial,\n" + SMALLEST + "    #[default]\n    Smallest,\n"
 
 # (what is wrong, file below reference/src, the text there, the text instead, the test that has to find it)
 FAULTS = [
@@ -32,6 +37,26 @@ FAULTS = [
     ("a peak need not be as large as its diagonal neighbours", "extrema.rs", "*place != (x, y)", "place.0 == x || place.1 == y",
      "extrema"),
     ("a leading zero is taken", "job_text.rs", "[first, ..] => *first != b'0' && digits", "[_, ..] => digits", "texts"),
+    # S-2's rule.
+    ("the half is rounded down", "kernel.rs", "(twice + 1).div_euclid(2)", "twice.div_euclid(2)", "kernels"),
+    ("where the half passes the smaller variance, the smallest f is taken", "kernel.rs", "smallest.max(half).min(xx.min(yy))",
+     "if half > xx.min(yy) { smallest } else { smallest.max(half) }", "kernels"),
+    ("no kernel where the half passes the smaller variance", "kernel.rs", "if !exists_as_before(xx, xy, yy, m) {",
+     "if !exists_as_before(xx, xy, yy, m) || choice == Choice::Binomial && xx + yy + xx.max(yy) - m > 2 * xx.min(yy) {",
+     "kernels"),
+    ("the product of the paper's equation 83 stands for the sum", "kernel.rs", "let twice = xx + yy + xx.max(yy) - m;",
+     "let twice = xx * yy / m + xx.max(yy) - m;", "kernels"),
+    ("the smaller variance is counted twice", "kernel.rs", "let twice = xx + yy + xx.max(yy) - m;",
+     "let twice = xx + yy + xx.min(yy) - m;", "kernels"),
+    ("the choice is not looked at", "kernel.rs", "    match choice {\n", "    match Choice::Binomial {\n", "kernels"),
+    # Who goes by which choice.
+    ("no choice is the smallest one", "kernel.rs", DEFAULT, DEFAULT_SMALLEST, "pictures"),
+    ("a text's pixels are of the smallest choice", "job_text.rs", "    run(\n        Shape::Matrix(job.covariance),\n",
+     "    crate::smooth::run_by(\n        crate::kernel::Choice::Smallest,\n        Shape::Matrix(job.covariance),\n", "texts"),
+    ("the service goes by S-2's rule", "service.rs", "pub const CHOICE: Choice = Choice::Smallest;",
+     "pub const CHOICE: Choice = Choice::Binomial;", "service_lists"),
+    ("a job is held to S-2's rule", "lists.rs", "shape_kernel_by(Choice::Smallest, self.shape, self.steps)",
+     "shape_kernel_by(Choice::Binomial, self.shape, self.steps)", "service_lists"),
 ]
 
 

@@ -1,15 +1,15 @@
-//! Reading, runs and differences of pictures, against the independent program.
+//! Reading, runs by both choices and differences of pictures, against the independent program.
 
 mod common;
 
-use common::{direction_of, inputs, numbered, shape_of, times};
+use common::{direction_of, inputs, numbered, shape_of, times, CHOICES};
 use reference::difference::{self as model, Difference as ModelDifference};
-use reference::generate::{random_pixels, random_shape};
+use reference::generate::{random_half, random_pixels, random_shape};
 use reference::lists::{random_length, random_work};
 use reference::random::Random;
-use reference::shape::{shape_kernel, Direction, Shape};
+use reference::shape::{shape_kernel_by, Direction, Shape};
 use reference::smooth::{self, exact_run, within_half_per_step};
-use vokhsaot::{difference, directional, pixel, run, shown, Difference};
+use vokhsaot::{difference, directional, pixel, run, run_by, shown, Difference, Error};
 
 const DIFFERENCES: [(Difference, ModelDifference); 5] = [
     (Difference::FirstX, ModelDifference::X),
@@ -73,51 +73,146 @@ fn pixels_at_places() {
     }
 }
 
-#[test]
-fn runs_between_two_pictures() {
-    let mut random = inputs(3);
-    let mut accepted = 0;
-    for _ in 0..times(4000) {
-        let (shape, steps) = if random.once_in(4) {
-            random_shape(&mut random)
-        } else {
-            random_work(&mut random, 24)
+/// What a run is lent and told; the pictures may have lengths that are refused.
+struct Run {
+    shape: Shape,
+    steps: u32,
+    width: u32,
+    height: u32,
+    first: Vec<u16>,
+    second: Vec<u16>,
+}
+
+/// What a run answers and leaves.
+type Left = (Result<(), Error>, Vec<u16>, Vec<u16>);
+
+impl Run {
+    fn random(random: &mut Random) -> Run {
+        let (shape, steps) = match random.below(5) {
+            0 => random_shape(random),
+            1 => {
+                let (covariance, steps) = random_half(random);
+                (Shape::Matrix(covariance), steps)
+            }
+            _ => random_work(random, 24),
         };
-        let (width, height) = sides(&mut random);
-        let (one, two) = lengths(&mut random, width, height);
-        let start = random_pixels(&mut random, one);
-        let (mut first, mut second) = (start.clone(), random_pixels(&mut random, two));
-        let (mut model_first, mut model_second) = (first.clone(), second.clone());
-        let given = numbered(run(
-            shape_of(shape),
-            steps,
-            width,
-            height,
-            &mut first,
-            &mut second,
-        ));
-        let expected = smooth::run(
+        let (width, height) = sides(random);
+        let (one, two) = lengths(random, width, height);
+        Run {
             shape,
             steps,
             width,
             height,
-            &mut model_first,
-            &mut model_second,
+            first: random_pixels(random, one),
+            second: random_pixels(random, two),
+        }
+    }
+
+    /// The library's run without a choice, against the independent program's.
+    fn without_choice(&self) -> Left {
+        let (mut first, mut second) = (self.first.clone(), self.second.clone());
+        let (mut model_first, mut model_second) = (first.clone(), second.clone());
+        let (steps, width, height) = (self.steps, self.width, self.height);
+        let shape = shape_of(self.shape);
+        let given = run(shape, steps, width, height, &mut first, &mut second);
+        let lent = (&mut model_first, &mut model_second);
+        let expected = smooth::run(self.shape, steps, width, height, lent.0, lent.1);
+        assert_eq!(numbered(given), expected, "{:?} {steps}", self.shape);
+        assert_eq!(first, model_first, "{:?} {steps}", self.shape);
+        assert_eq!(second, model_second, "{:?} {steps}", self.shape);
+        (given, first, second)
+    }
+
+    /// The run by each choice against the independent program's, within k/2 of the exact one; and without a choice
+    /// the first of them.
+    fn compare(&self) -> [Left; 2] {
+        let name = format!(
+            "{:?} {} {} {}",
+            self.shape, self.steps, self.width, self.height
         );
-        assert_eq!(given, expected, "{shape:?} {steps} {width} {height}");
-        assert_eq!(first, model_first);
-        assert_eq!(second, model_second);
-        if given.is_ok() {
-            accepted += 1;
-            if first.len() <= 200 {
-                let kernel = shape_kernel(shape, steps).unwrap();
-                let exact = exact_run(&kernel, &start, width, height, steps);
+        let left = CHOICES.map(|(choice, model_choice)| {
+            let (mut first, mut second) = (self.first.clone(), self.second.clone());
+            let (mut model_first, mut model_second) = (first.clone(), second.clone());
+            let (steps, width, height) = (self.steps, self.width, self.height);
+            let shape = shape_of(self.shape);
+            let given = run_by(choice, shape, steps, width, height, &mut first, &mut second);
+            let lent = (&mut model_first, &mut model_second);
+            let expected = smooth::run_by(
+                model_choice,
+                self.shape,
+                steps,
+                width,
+                height,
+                lent.0,
+                lent.1,
+            );
+            assert_eq!(numbered(given), expected, "{name} {choice:?}");
+            assert_eq!(first, model_first, "{name} {choice:?}");
+            assert_eq!(second, model_second, "{name} {choice:?}");
+            if given.is_ok() && first.len() <= 200 {
+                let kernel = shape_kernel_by(model_choice, self.shape, steps).unwrap();
+                let exact = exact_run(&kernel, &self.first, width, height, steps);
                 let last = shown(steps, &first, &second);
-                assert!(within_half_per_step(last, &exact, kernel.sum, steps));
+                assert!(
+                    within_half_per_step(last, &exact, kernel.sum, steps),
+                    "{name} {choice:?}"
+                );
+            }
+            (given, first, second)
+        });
+        assert_eq!(self.without_choice(), left[0], "{name}");
+        left
+    }
+}
+
+#[test]
+fn runs_between_two_pictures() {
+    let mut random = inputs(3);
+    let (mut accepted, mut differ) = (0, 0);
+    for _ in 0..times(5000) {
+        let [binomial, smallest] = Run::random(&mut random).compare();
+        accepted += u32::from(binomial.0.is_ok());
+        differ += u32::from(binomial != smallest);
+    }
+    assert!(accepted > 1000 && differ > 500, "{accepted} {differ}");
+}
+
+/// All shapes of a grid that has the places where f changes, over a bright pixel in the middle, in a corner, and none.
+#[test]
+fn small_runs() {
+    let mut differ = 0;
+    for steps in 1..=3 {
+        let m = 4096 * steps as i32;
+        let grid = [0, 1, m / 3, m / 2, m / 2 + 1, 2 * m / 3, m - 1, m];
+        for xx in grid {
+            for yy in grid {
+                for xy in grid.into_iter().flat_map(|lean| [lean, -lean]) {
+                    for bright in [0, 4, 9] {
+                        let mut first: Vec<u16> = (1..=9).collect();
+                        first
+                            .iter_mut()
+                            .skip(bright)
+                            .take(1)
+                            .for_each(|p| *p = 65535);
+                        let shape = Shape::matrix(xx, xy, yy);
+                        let second = vec![7; 9];
+                        let (width, height) = (3, 3);
+                        let [binomial, smallest] = Run {
+                            shape,
+                            steps,
+                            width,
+                            height,
+                            first,
+                            second,
+                        }
+                        .compare();
+                        differ += u32::from(binomial != smallest);
+                    }
+                }
             }
         }
     }
-    assert!(accepted > 1000, "{accepted}");
+    assert!(differ > 500, "{differ}");
 }
 
 #[test]

@@ -5,13 +5,13 @@ mod common;
 
 use common::{inputs, numbered, shape_of, times};
 use reference::error_code::ErrorCode;
-use reference::generate::{random_pixels, random_shape};
+use reference::generate::{random_half, random_pixels, random_shape};
 use reference::lists::{check_list, random_length, random_sides, random_work, Calls, Seen};
 use reference::random::Random;
 use reference::service as model;
 use reference::service::{Record, Slot};
 use reference::shape::Shape as ModelShape;
-use vokhsaot::{Error, Service, Shape, STORE_PIXELS, WORDS};
+use vokhsaot::{run, run_by, shown, Choice, Error, Service, Shape, STORE_PIXELS, WORDS};
 
 /// Calls of one list.
 const CALLS: u64 = 400;
@@ -285,6 +285,56 @@ fn the_sentences_of_demand_3() {
         check_list::<Proved>(&mut random, calls, &mut seen);
     }
     assert!(seen.is_enough(), "{seen:?}");
+}
+
+/// A job's picture as the library's service hands it over, alone in it.
+fn handed_over(shape: Shape, steps: u32, width: u32, height: u32, picture: &[u16]) -> Vec<u16> {
+    let mut service = Service::new();
+    assert_eq!(service.submit(shape, steps, width, height, picture), Ok(1));
+    while service.tick().unwrap().is_some() {}
+    let mut lent = vec![0; picture.len()];
+    assert_eq!(service.collect(1, &mut lent), Ok(1));
+    lent
+}
+
+/// The service goes by the smallest choice, as the library's own runs by it do, and not by that of a run that names none.
+#[test]
+fn jobs_go_by_the_smallest_choice() {
+    let mut random = inputs(14);
+    let mut differ = 0;
+    for turn in 0..times(4000) {
+        let (shape, steps) = if turn % 2 == 0 {
+            random_work(&mut random, 64)
+        } else {
+            let (covariance, steps) = random_half(&mut random);
+            (ModelShape::Matrix(covariance), steps)
+        };
+        let (width, height) = random_sides(&mut random);
+        let area = u64::from(width) * u64::from(height);
+        let picture = random_pixels(&mut random, area.min(1024) as usize);
+        let (mut first, mut second) = (picture.clone(), vec![0; picture.len()]);
+        let (mut one, mut other) = (first.clone(), second.clone());
+        let shape = shape_of(shape);
+        let smallest = Choice::Smallest;
+        let answer = run_by(
+            smallest,
+            shape,
+            steps,
+            width,
+            height,
+            &mut first,
+            &mut second,
+        );
+        if answer.is_err() {
+            continue;
+        }
+        let expected = shown(steps, &first, &second);
+        let handed_over = handed_over(shape, steps, width, height, &picture);
+        assert_eq!(handed_over, expected, "{shape:?} {steps} {width} {height}");
+        run(shape, steps, width, height, &mut one, &mut other).unwrap();
+        differ += u32::from(handed_over != shown(steps, &one, &other));
+    }
+    assert!(differ > 500, "{differ}");
 }
 
 /// Words that hold no record at all, which the independent program cannot be given: refusal 2, and nothing changes.

@@ -4,13 +4,15 @@ use crate::error::{Failure, Outcome};
 use crate::exact::Run;
 use crate::files::{self, input_name};
 use crate::kernel::explained;
-use crate::model::{refusal, shape_of};
+use crate::model::{choice_of, refusal, shape_of};
 use crate::pictures::Picture;
-use crate::shape::{step_count, ShapeOptions, StepCount};
+use crate::shape::{
+    choice_name, other_choice, step_count, ChoiceOption, ShapeOptions, StepCount, Work,
+};
 use crate::stats::mean;
-use reference::shape::shape_kernel;
+use reference::shape::shape_kernel_by;
 use std::ffi::OsString;
-use vokhsaot::{run, shown, Shape};
+use vokhsaot::{shown, Choice};
 
 /// Compare two pictures, or one with a run of another
 #[derive(clap::Args)]
@@ -25,7 +27,8 @@ any pixel differs.
 With a shape and --steps OTHER is also compared with a run of ONE: the largest
 distance from the exact run, which keeps fractions, is at most K/2, and every
 pixel is that of the library's run. What is not so is written in capitals; then,
-and only then, the exit status is 1.",
+and only then, the exit status is 1. Where OTHER is the library's run by the other
+choice of f, that is told.",
     after_help = "\
 Examples:
   $ vokhsaot compare spot.pgm smooth.pgm
@@ -37,6 +40,8 @@ pub struct Options {
     /// The number of steps of the run, 1 to 64, or auto: the fewest with which the shape has a kernel
     #[arg(long, value_name = "K", value_parser = step_count, allow_hyphen_values = true)]
     steps: Option<StepCount>,
+    #[command(flatten)]
+    choice: ChoiceOption,
     /// The one picture: with a shape that before the run
     one: OsString,
     /// The other one: with a shape that after the run
@@ -51,8 +56,8 @@ pub fn command(options: &Options) -> Result<Outcome, Failure> {
     let mut text = differences.text(&one, &other);
     let good = match asked {
         None => differences.count == 0,
-        Some((shape, steps)) => {
-            let made = Made::of(shape, steps, &one, &other)?;
+        Some(work) => {
+            let made = Made::of(work, &one, &other)?;
             text += &made.text(&other);
             made.is_good()
         }
@@ -62,11 +67,15 @@ pub fn command(options: &Options) -> Result<Outcome, Failure> {
 }
 
 impl Options {
-    /// The shape and the step count of the run to compare with, where one is asked for.
-    fn run(&self) -> Result<Option<(Shape, u32)>, Failure> {
+    /// The run to compare with, where one is asked for.
+    fn run(&self) -> Result<Option<Work>, Failure> {
         match (self.shape.optional("compare")?, self.steps) {
             (None, None) => Ok(None),
-            (Some(shape), Some(steps)) => Ok(Some((shape, steps.of(shape)?))),
+            (Some(shape), Some(steps)) => Ok(Some(Work {
+                choice: self.choice.read(),
+                shape,
+                steps: steps.of(shape)?,
+            })),
             _ => Err(wrong("a shape and --steps are wanted together, or neither")),
         }
     }
@@ -159,12 +168,19 @@ struct Made {
     is_near: bool,
     /// From the library's run.
     differences: Differences,
+    /// The other choice of f, where the library's run by that one is the picture.
+    is_by: Option<Choice>,
 }
 
 impl Made {
-    fn of(shape: Shape, steps: u32, one: &Picture, other: &Picture) -> Result<Made, Failure> {
-        let after = after(shape, steps, one)?;
-        let kernel = shape_kernel(shape_of(shape), steps).map_err(refusal)?;
+    fn of(work: Work, one: &Picture, other: &Picture) -> Result<Made, Failure> {
+        let Work {
+            choice,
+            shape,
+            steps,
+        } = work;
+        let differences = Differences::of(&after(work, one)?, other);
+        let kernel = shape_kernel_by(choice_of(choice), shape_of(shape), steps).map_err(refusal)?;
         let exact = Run {
             kernel,
             start: &one.pixels,
@@ -173,12 +189,17 @@ impl Made {
             steps,
         };
         let farthest = exact.farthest(&other.pixels);
+        let is_by = match differences.count {
+            0 => None,
+            _ => other_maker(work, one, other)?,
+        };
         Ok(Made {
             steps,
             distance: farthest.distance,
             place: farthest.place,
             is_near: farthest.is_near,
-            differences: Differences::of(&after, other),
+            differences,
+            is_by,
         })
     }
 
@@ -194,32 +215,49 @@ impl Made {
         } else {
             format!("MORE than {half:.1}")
         };
-        let equality = match self.differences.count {
-            0 => "equal".to_owned(),
-            count => format!(
-                "{count} of {} pixels DIFFER, first in {}",
-                other.pixels.len(),
-                other.place(self.differences.first)
-            ),
-        };
         format!(
             "exact run, steps {steps}: largest distance {:.3} in {} ({verdict})\n\
-             library's run, steps {steps}: {equality}\n",
+             library's run, steps {steps}: {}\n",
             self.distance,
-            other.place(self.place)
+            other.place(self.place),
+            self.equality(other)
+        )
+    }
+
+    /// How the picture stands to the library's run.
+    fn equality(&self, other: &Picture) -> String {
+        let count = self.differences.count;
+        if count == 0 {
+            return "equal".to_owned();
+        }
+        let by_other = match self.is_by {
+            Some(choice) => format!("; equal with --choice {}", choice_name(choice)),
+            None => String::new(),
+        };
+        format!(
+            "{count} of {} pixels DIFFER, first in {}{by_other}",
+            other.pixels.len(),
+            other.place(self.differences.first)
         )
     }
 }
 
+/// The other choice of f, where the library's run by that one makes the other picture of the one.
+fn other_maker(work: Work, one: &Picture, other: &Picture) -> Result<Option<Choice>, Failure> {
+    let choice = other_choice(work.choice);
+    let is_made = after(work.by(choice), one)?.pixels == other.pixels;
+    Ok(is_made.then_some(choice))
+}
+
 /// What the library's run makes of a picture.
-fn after(shape: Shape, steps: u32, picture: &Picture) -> Result<Picture, Failure> {
+fn after(work: Work, picture: &Picture) -> Result<Picture, Failure> {
     let mut first = picture.pixels.clone();
     let mut second = vec![0; first.len()];
     let (width, height) = (picture.width, picture.height);
-    run(shape, steps, width, height, &mut first, &mut second)
-        .map_err(|refusal| explained(refusal, shape, steps))?;
+    work.run(width, height, &mut first, &mut second)
+        .map_err(|refusal| explained(refusal, work))?;
     Ok(Picture {
-        pixels: shown(steps, &first, &second).to_vec(),
+        pixels: shown(work.steps, &first, &second).to_vec(),
         ..*picture
     })
 }

@@ -132,8 +132,9 @@ pub fn near(place: usize, reach: usize, side: usize) -> Range<usize> {
 mod tests {
     use super::*;
     use reference::generate::{random_pixels, random_shape};
+    use reference::kernel::Choice;
     use reference::random::Random;
-    use reference::shape::shape_kernel;
+    use reference::shape::shape_kernel_by;
     use reference::smooth::{rounded_run, within_half_per_step};
 
     /// The same question in whole numbers alone.
@@ -152,9 +153,10 @@ mod tests {
     fn as_in_whole_numbers() {
         let mut random = Random::new(21);
         let (mut runs, mut far) = (0, 0);
-        while runs < 400 || far < 100 {
+        while runs < 800 || far < 200 {
             let (shape, steps) = random_shape(&mut random);
-            let Ok(kernel) = shape_kernel(shape, steps) else {
+            let choice = random.pick(&[Choice::Binomial, Choice::Smallest]);
+            let Ok(kernel) = shape_kernel_by(choice, shape, steps) else {
                 continue;
             };
             let (width, height) = (1 + random.below(7) as u32, 1 + random.below(7) as u32);

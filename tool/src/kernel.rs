@@ -3,19 +3,21 @@
 use crate::error::{refusal_text, Failure, Outcome};
 use crate::files;
 use crate::numbers::Fraction;
-use crate::shape::{self, RunOptions, MOST_STEPS, UNITS};
-use vokhsaot::{covariance, kernel, Covariance, Error, Kernel, Shape};
+use crate::shape::{self, choice_name, other_choice, RunOptions, Work, MOST_STEPS, UNITS};
+use vokhsaot::{covariance, Choice, Covariance, Error, Kernel, Shape};
 
 /// Print a shape's kernel, or why there is none
 #[derive(clap::Args)]
 #[command(
     before_help = "\
-Prints the 3 × 3 kernel as fractions, the covariance worked back from it and the
-free number f; or the condition that fails, by how much, and how many steps (at
-most 64) would be enough. Without a kernel the exit status is 1.",
+Prints the 3 × 3 kernel as fractions, the covariance worked back from it, the
+free number f and the choice that it comes from; or the condition that fails, by
+how much, and how many steps (at most 64) would be enough. Without a kernel, which
+the choice has no part in, the exit status is 1.",
     after_help = "\
 Examples:
   $ vokhsaot kernel --matrix 4097,0,4096 --steps 2
+  $ vokhsaot kernel --matrix 4097,0,4096 --steps 2 --choice smallest
   $ vokhsaot kernel --matrix 4097,0,4096 --steps 1"
 )]
 pub struct Options {
@@ -24,11 +26,11 @@ pub struct Options {
 }
 
 pub fn command(options: &Options) -> Result<Outcome, Failure> {
-    let (shape, steps) = options.run.read("kernel")?;
-    let entries = covariance(shape)?;
-    let (text, outcome) = match kernel(shape, steps) {
-        Ok(found) => (table_text(&found, steps), Outcome::Good),
-        Err(Error::NoKernel) => (no_kernel_text(entries, steps), Outcome::Differs),
+    let work = options.run.read("kernel")?;
+    let entries = covariance(work.shape)?;
+    let (text, outcome) = match work.kernel() {
+        Ok(found) => (table_text(&found, work)?, Outcome::Good),
+        Err(Error::NoKernel) => (no_kernel_text(entries, work.steps), Outcome::Differs),
         Err(refusal) => return Err(refusal.into()),
     };
     let head = format!("covariance {}\n", covariance_text(entries));
@@ -57,12 +59,14 @@ fn no_kernel_text(entries: Covariance, steps: u32) -> String {
     text + &format!("{}\n", refusal_text(Error::NoKernel))
 }
 
-fn table_text(kernel: &Kernel, steps: u32) -> String {
+fn table_text(kernel: &Kernel, work: Work) -> Result<String, Error> {
+    let steps = work.steps;
     let cell = |dx, dy| Fraction::new(kernel.weight(dx, dy).into(), kernel.sum.into());
     let cells = [-1, 0, 1].map(|dy| [-1, 0, 1].map(|dx| cell(dx, dy).to_string()));
     let width = cells.iter().flatten().map(String::len).max().unwrap_or(0);
     let mut text = format!("steps {steps}, M = {}\n", most_variance(steps));
     text += &format!("f = {}\n", free_number(kernel, steps));
+    text += &format!("{}\n", choice_text(kernel, work)?);
     text +=
         "weights, columns x-1, x, x+1 from left to right; y grows with the row number, downward:\n";
     let names = ["row y-1 (above)", "row y", "row y+1 (below)"];
@@ -73,25 +77,48 @@ fn table_text(kernel: &Kernel, steps: u32) -> String {
     let [xx, xy, yy] = worked_back(kernel).map(|moment| moment.times(UNITS.into()));
     text += &format!("  one step: xx {xx}, xy {xy}, yy {yy}\n");
     let [xx, xy, yy] = [xx, xy, yy].map(|entry| entry.times(steps.into()));
-    text + &format!("  all steps: xx {xx}, xy {xy}, yy {yy}\n")
+    Ok(text + &format!("  all steps: xx {xx}, xy {xy}, yy {yy}\n"))
+}
+
+/// The choice of a kernel, and the f of the other choice: where that is the same, so is all the rest.
+fn choice_text(kernel: &Kernel, work: Work) -> Result<String, Error> {
+    let other = other_choice(work.choice);
+    let others = work.by(other).kernel()?;
+    let f = match others == *kernel {
+        true => "the same f".to_owned(),
+        false => format!("f = {}", free_number(&others, work.steps)),
+    };
+    let (choice, other) = (choice_name(work.choice), choice_name(other));
+    Ok(format!("choice {choice} ({f} with {other})"))
 }
 
 /// A refusal of a run as it is told: with the reasons where there is no kernel.
-pub fn explained(refusal: Error, shape: Shape, steps: u32) -> Failure {
-    match (refusal, covariance(shape)) {
+pub fn explained(refusal: Error, work: Work) -> Failure {
+    match (refusal, covariance(work.shape)) {
         (Error::NoKernel, Ok(entries)) => {
             let sentence = refusal_text(refusal);
-            let reasons = reasons(entries, steps).join("; ");
+            let reasons = reasons(entries, work.steps).join("; ");
             Failure::Input(format!("{}: {reasons}", sentence.trim_end_matches('.')))
         }
         _ => refusal.into(),
     }
 }
 
-/// The fewest steps with which a shape's kernel has weight at its centre, where 64 are enough. The library is asked: which
-/// kernels are hollow is its choice of f.
-pub fn fewest_with_centre(shape: Shape) -> Option<u32> {
-    (1..=MOST_STEPS).find(|steps| kernel(shape, *steps).is_ok_and(|found| found.weight(0, 0) > 0))
+/// Whether there is a kernel, and it has weight at its centre. The library is asked: which kernels are hollow is the matter of
+/// its choices of f.
+pub fn has_centre(work: Work) -> bool {
+    work.kernel().is_ok_and(|found| found.weight(0, 0) > 0)
+}
+
+/// The fewest steps with which a shape's kernel has weight at its centre, where 64 are enough.
+pub fn fewest_with_centre(choice: Choice, shape: Shape) -> Option<u32> {
+    (1..=MOST_STEPS).find(|steps| {
+        has_centre(Work {
+            choice,
+            shape,
+            steps: *steps,
+        })
+    })
 }
 
 /// The largest difference that rounding holds for certain: a step leaves a pixel as it is where no neighbour differs from

@@ -3,11 +3,12 @@
 
 use crate::exact::{Farthest, Run};
 use crate::list::Submission;
-use crate::model::shape_of;
+use crate::model::{choice_of, shape_of};
 use crate::numbers::counted;
 use crate::rules::{Difference, Rule};
+use crate::services::JOB_CHOICE;
 use reference::kernel::Kernel;
-use reference::shape::{covariance, shape_kernel};
+use reference::shape::{covariance, shape_kernel_by};
 use reference::smooth::rounded_run;
 use std::collections::{BTreeMap, HashSet};
 use vokhsaot::{Error, SEATS};
@@ -79,10 +80,12 @@ impl Job {
         });
         waits.max_by(|one, other| one.compared(other))
     }
+}
 
-    fn kernel(&self) -> Option<Kernel> {
-        shape_kernel(shape_of(self.submission.shape), self.submission.steps).ok()
-    }
+/// The kernel that a job's pixels are held to, where there is one.
+fn kernel_of(submission: &Submission) -> Option<Kernel> {
+    let Submission { shape, steps, .. } = *submission;
+    shape_kernel_by(choice_of(JOB_CHOICE), shape_of(shape), steps).ok()
 }
 
 /// Ticks that a job waited, and the most that it is promised.
@@ -149,8 +152,7 @@ impl Ledger {
             height,
             ..
         } = *submission;
-        let shape = shape_of(shape);
-        let shape_refusal = covariance(shape).err();
+        let shape_refusal = covariance(shape_of(shape)).err();
         let area = u64::from(width) * u64::from(height);
         let side_fits = |side| (1..=1024).contains(&side);
         let tests = [
@@ -168,7 +170,7 @@ impl Ledger {
         if let Some((_, refusal)) = first {
             return Some(*refusal);
         }
-        if shape_kernel(shape, steps).is_err() {
+        if kernel_of(submission).is_none() {
             return Some(Error::NoKernel);
         }
         let all_given = self.given.len() as u64 == u64::MAX;
@@ -360,9 +362,8 @@ impl Job {
     /// Judges what the job was handed over by its sentences, but for that of a service opened for it only.
     pub fn judge(&self, picture: &[u16]) -> (Vec<Difference>, Option<Handed>) {
         // A job that should not have been accepted has no run to be compared with.
-        let Some(kernel) = self
-            .kernel()
-            .filter(|_| picture.len() == self.picture.len())
+        let Some(kernel) =
+            kernel_of(&self.submission).filter(|_| picture.len() == self.picture.len())
         else {
             return (Vec::new(), None);
         };

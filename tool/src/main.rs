@@ -1,5 +1,5 @@
-//! The testers' command-line tool of the proved picture smoother. Every result comes from the proved library; the tool
-//! reads, writes and compares.
+//! The testers' command-line tool of the proved picture smoother. Results come from the proved library, and what they are
+//! judged by from the independent program in `reference/`; the tool reads, writes and compares.
 
 mod command_line;
 mod compare;

@@ -7,10 +7,11 @@ use crate::list::{Call, Pixels, Submission};
 use crate::model::Model;
 use crate::numbers::long_unsigned;
 use crate::progress::Progress;
+use crate::services::JOB_CHOICE;
 use crate::shape::UNITS;
 use reference::random::Random;
 use reference::service::Record;
-use vokhsaot::{kernel, Direction, Shape};
+use vokhsaot::{kernel_by, Direction, Shape};
 
 /// Print a random list of service calls for replay
 #[derive(clap::Args)]
@@ -179,7 +180,7 @@ impl Mixture {
         let steps = random.pick(&[1, 1, 2, 3, 4, 5, 8, 64]);
         let shape = (0..20)
             .map(|_| some_shape(random, steps))
-            .find(|shape| kernel(*shape, steps).is_ok())
+            .find(|shape| kernel_by(JOB_CHOICE, *shape, steps).is_ok())
             .unwrap_or(Shape::Round(0.25));
         let (width, height) = match random.below(16) {
             0 => random.pick(&[(32, 32), (1024, 1), (1, 1024), (64, 16)]),

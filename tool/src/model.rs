@@ -1,11 +1,11 @@
 //! The independent service of `reference/`, under the calls of a list, and its record as the words that the library uses.
 
 use crate::services::Submitted;
-use reference::kernel::Covariance;
+use reference::kernel::{Choice as ReferenceChoice, Covariance};
 use reference::lists::{Calls, Model as Reference};
 use reference::service::{Record, Slot, SLOTS, STORE_PIXELS};
 use reference::shape::{Direction, Shape as ReferenceShape};
-use vokhsaot::{Error, Shape, WORDS};
+use vokhsaot::{Choice, Error, Shape, WORDS};
 
 /// Words of one seat.
 pub const SEAT_WORDS: usize = 8;
@@ -27,6 +27,14 @@ pub fn shape_of(shape: Shape) -> ReferenceShape {
                 sine: direction.sine,
             },
         },
+    }
+}
+
+/// A choice of f as the independent program has it.
+pub fn choice_of(choice: Choice) -> ReferenceChoice {
+    match choice {
+        Choice::Binomial => ReferenceChoice::Binomial,
+        Choice::Smallest => ReferenceChoice::Smallest,
     }
 }
 

@@ -21,7 +21,8 @@ free counts, the record, the store and the pictures handed over are compared, an
 the promises are checked on the list itself. A difference is written in capitals
 with the sentence that is broken. The last line is the verdict; the exit status is
 0 only where it is good. Refused calls are no differences where they are due. A
-list from standard input is answered line by line.
+job's kernel has the smallest f (smooth --choice smallest). A list from standard
+input is answered line by line.
 
 ", list_help!()),
     after_help = "\

@@ -1,6 +1,10 @@
 //! The service under test: the proved one, or one of those to practise on.
 
-use vokhsaot::{Error, Shape};
+use vokhsaot::{Choice, Error, Shape};
+
+/// The choice of f of every job, until the record of a service can hold one (change request S-3). A lone run that a picture
+/// handed over is compared with names it.
+pub const JOB_CHOICE: Choice = Choice::Smallest;
 
 /// A submit's numbers and its lent picture.
 #[derive(Clone, Copy)]

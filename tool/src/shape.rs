@@ -1,8 +1,10 @@
-//! Shapes and step counts as options (`--oval 4,1,30`), and shapes as words of a list (`oval 4 1 30`).
+//! Shapes, step counts and choices of f as options (`--oval 4,1,30`), and shapes as words of a list (`oval 4 1 30`).
 
 use crate::error::Failure;
 use crate::numbers::{float, unsigned, whole};
-use vokhsaot::{covariance, Covariance, Direction, Shape};
+use vokhsaot::{
+    covariance, kernel_by, run_by, Choice, Covariance, Direction, Error, Kernel, Shape,
+};
 
 /// One square pixel of variance in the units of a covariance.
 pub const UNITS: i32 = 4096;
@@ -58,7 +60,7 @@ pub enum StepCount {
 
 impl StepCount {
     /// The number of steps for a shape. Where no number gives a kernel, one that the library refuses for that.
-    pub fn of(self, shape: Shape) -> Result<u32, vokhsaot::Error> {
+    pub fn of(self, shape: Shape) -> Result<u32, Error> {
         match self {
             StepCount::Exactly(steps) => Ok(steps),
             StepCount::Auto => Ok(fewest_steps(covariance(shape)?).min(MOST_STEPS)),
@@ -93,6 +95,84 @@ pub fn step_count(text: &str) -> Result<StepCount, String> {
     }
 }
 
+/// A choice of f as it is typed.
+#[derive(clap::ValueEnum, Clone, Copy)]
+enum ChoiceName {
+    Binomial,
+    Smallest,
+}
+
+/// The option of a command that takes a shape and a step count, so makes a kernel.
+#[derive(clap::Args, Clone)]
+pub struct ChoiceOption {
+    /// How the kernel's free number f is chosen: so that the centre has at least twice the weight of each pixel beside, above
+    /// and below it where any f does that, or the smallest, as in the service
+    #[arg(long, value_name = "CHOICE", value_enum, default_value_t = ChoiceName::Binomial, requires = "steps")]
+    choice: ChoiceName,
+}
+
+impl ChoiceOption {
+    /// The choice that is named, or the one of who names none.
+    pub fn read(&self) -> Choice {
+        match self.choice {
+            ChoiceName::Binomial => Choice::Binomial,
+            ChoiceName::Smallest => Choice::Smallest,
+        }
+    }
+}
+
+/// A choice by the name under which it is typed.
+pub fn choice_name(choice: Choice) -> &'static str {
+    match choice {
+        Choice::Binomial => "binomial",
+        Choice::Smallest => "smallest",
+    }
+}
+
+/// The choice that is not this one.
+pub fn other_choice(choice: Choice) -> Choice {
+    match choice {
+        Choice::Binomial => Choice::Smallest,
+        Choice::Smallest => Choice::Binomial,
+    }
+}
+
+/// What a run is asked for beside its picture.
+#[derive(Clone, Copy)]
+pub struct Work {
+    pub choice: Choice,
+    pub shape: Shape,
+    pub steps: u32,
+}
+
+impl Work {
+    /// The same with another choice of f.
+    pub fn by(self, choice: Choice) -> Work {
+        Work { choice, ..self }
+    }
+
+    /// The library's kernel.
+    pub fn kernel(&self) -> Result<Kernel, Error> {
+        kernel_by(self.choice, self.shape, self.steps)
+    }
+
+    /// The library's run between two pictures.
+    pub fn run(
+        &self,
+        width: u32,
+        height: u32,
+        first: &mut [u16],
+        second: &mut [u16],
+    ) -> Result<(), Error> {
+        let Work {
+            choice,
+            shape,
+            steps,
+        } = *self;
+        run_by(choice, shape, steps, width, height, first, second)
+    }
+}
+
 /// The options of a command that takes a shape and a step count.
 #[derive(clap::Args, Clone)]
 pub struct RunOptions {
@@ -101,13 +181,19 @@ pub struct RunOptions {
     /// The number of steps, 1 to 64, or auto: the fewest with which the shape has a kernel
     #[arg(long, value_name = "K", value_parser = step_count, allow_hyphen_values = true)]
     steps: StepCount,
+    #[command(flatten)]
+    choice: ChoiceOption,
 }
 
 impl RunOptions {
-    /// The shape and the step count.
-    pub fn read(&self, command: &'static str) -> Result<(Shape, u32), Failure> {
+    /// The shape, the step count and the choice.
+    pub fn read(&self, command: &'static str) -> Result<Work, Failure> {
         let shape = self.shape.needed(command)?;
-        Ok((shape, self.steps.of(shape)?))
+        Ok(Work {
+            choice: self.choice.read(),
+            shape,
+            steps: self.steps.of(shape)?,
+        })
     }
 
     /// Whether the number of steps was left to the tool.

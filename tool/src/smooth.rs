@@ -2,10 +2,10 @@
 
 use crate::error::{say, Failure, Outcome};
 use crate::files;
-use crate::kernel::{explained, fewest_with_centre, held_difference};
-use crate::shape::{steps_text, RunOptions};
+use crate::kernel::{explained, fewest_with_centre, has_centre, held_difference};
+use crate::shape::{steps_text, RunOptions, Work, UNITS};
 use std::ffi::OsString;
-use vokhsaot::{kernel, run, shown, Kernel, Shape};
+use vokhsaot::{shown, Choice, Kernel};
 
 /// Smooth a picture
 #[derive(clap::Args)]
@@ -21,6 +21,7 @@ its centre. The picture is written all the same, and the exit status is 0.",
     after_help = "\
 Examples:
   $ vokhsaot smooth --round 0.5 --steps 2 spot.pgm smooth.pgm
+  $ vokhsaot smooth --round 0.5 --steps 1 --choice smallest spot.pgm hollow.pgm
   $ vokhsaot smooth --oval 4,1,30 --steps auto < horizon.pgm > oval.pgm"
 )]
 pub struct Options {
@@ -38,13 +39,14 @@ pub struct Options {
 }
 
 pub fn command(options: &Options) -> Result<Outcome, Failure> {
-    let (shape, steps) = options.run.read("smooth")?;
+    let work = options.run.read("smooth")?;
+    let steps = work.steps;
     let mut picture = files::read_picture(&options.input)?;
     let mut first = picture.pixels.clone();
     let mut second = vec![0; first.len()];
     let (width, height) = (picture.width, picture.height);
-    run(shape, steps, width, height, &mut first, &mut second)
-        .map_err(|refusal| explained(refusal, shape, steps))?;
+    work.run(width, height, &mut first, &mut second)
+        .map_err(|refusal| explained(refusal, work))?;
     // An average is at most the largest pixel, so the maxval still holds.
     let after = shown(steps, &first, &second).to_vec();
     let before = std::mem::replace(&mut picture.pixels, after);
@@ -56,9 +58,8 @@ pub fn command(options: &Options) -> Result<Outcome, Failure> {
         say(&format!("{}, the fewest with a kernel", steps_text(steps)));
     }
     let seen = Seen {
-        shape,
-        steps,
-        kernel: kernel(shape, steps)?,
+        work,
+        kernel: work.kernel()?,
         width: width as usize,
         maxval: picture.maxval,
         before: &before,
@@ -83,8 +84,7 @@ const CONSIDERABLE: usize = 4;
 
 /// A run that is over, as its warnings see it.
 struct Seen<'a> {
-    shape: Shape,
-    steps: u32,
+    work: Work,
     kernel: Kernel,
     width: usize,
     maxval: u16,
@@ -146,7 +146,7 @@ impl Seen<'_> {
     fn with_rounding(&self, what: &str) -> String {
         let mut text = what.to_owned();
         if let Some(units) = held_difference(&self.kernel).filter(|units| *units > 0) {
-            let (steps, units) = (steps_text(self.steps), units_text(units));
+            let (steps, units) = (steps_text(self.work.steps), units_text(units));
             text += &format!("; at {steps} it holds differences up to {units}");
             text += &self.with_fewer_steps();
         }
@@ -161,25 +161,45 @@ impl Seen<'_> {
 
     /// The same of the fewest steps that can be recommended: those with weight at the centre.
     fn with_fewer_steps(&self) -> String {
-        let fewer = fewest_with_centre(self.shape).filter(|fewer| *fewer < self.steps);
-        let Some(fewer) = fewer else {
+        let Work { choice, shape, .. } = self.work;
+        let fewer = fewest_with_centre(choice, shape).filter(|fewer| *fewer < self.work.steps);
+        let Some(steps) = fewer else {
             return String::new();
         };
-        match kernel(self.shape, fewer).map(|found| held_difference(&found)) {
-            Ok(Some(units)) => format!(" (at {}: {units})", steps_text(fewer)),
+        let with_fewer = Work { steps, ..self.work };
+        match with_fewer.kernel().map(|found| held_difference(&found)) {
+            Ok(Some(units)) => format!(" (at {}: {units})", steps_text(steps)),
             _ => String::new(),
         }
     }
 
-    /// What a kernel without weight at its centre does, and how many steps have some.
+    /// What a kernel without weight at its centre does, and what gives it some.
     fn without_centre(&self) -> String {
-        let enough = match fewest_with_centre(self.shape) {
-            Some(steps) => format!("with {} it has some", steps_text(steps)),
-            None => "no number of steps gives it some".to_owned(),
-        };
         format!(
-            "the kernel has no weight at its centre: each step takes all of a lone bright pixel to its neighbours, which leaves rings or checkerboards; {enough}"
+            "the kernel has no weight at its centre: each step takes all of a lone bright pixel to its neighbours, which leaves rings or checkerboards; {}",
+            self.with_centre()
         )
+    }
+
+    /// What gives the centre weight: the other choice of f, unless a variance is all that the steps can carry, and more steps.
+    fn with_centre(&self) -> String {
+        let Work {
+            choice,
+            shape,
+            steps,
+        } = self.work;
+        let full = format!(
+            "the larger variance is all of M = {UNITS} × {steps}, so no choice of f gives it some"
+        );
+        let fewest = fewest_with_centre(choice, shape).map(steps_text);
+        match (has_centre(self.work.by(Choice::Binomial)), fewest) {
+            (true, Some(steps)) => {
+                format!("it has some without --choice smallest, or with {steps}")
+            }
+            (true, None) => "it has some without --choice smallest".to_owned(),
+            (false, Some(steps)) => format!("{full}; with {steps} it has some"),
+            (false, None) => format!("{full}, and no number of steps does"),
+        }
     }
 
     fn held(&self) -> Held {

@@ -1,6 +1,6 @@
 //! `steps`: the height of one pixel after each step of a run, with a bar beside it, and whether it is a peak or a hollow
-//! there. The library's `run` leaves only its last two steps, so the others are ticks of its service: a tick is one step,
-//! and the store belongs to the caller.
+//! there. The library's run leaves only its last two steps. The others are ticks of its service where a job has the run's
+//! kernel: a tick is one step, and the store belongs to the caller. Elsewhere they are the independent program's.
 
 use crate::error::{Failure, Outcome};
 use crate::exact::near;
@@ -8,10 +8,13 @@ use crate::files;
 use crate::kernel::explained;
 use crate::numbers::unsigned;
 use crate::pictures::Picture;
-use crate::shape::RunOptions;
+use crate::services::JOB_CHOICE;
+use crate::shape::{RunOptions, Work};
+use reference::kernel::Kernel;
+use reference::smooth::step;
 use std::ffi::OsString;
 use std::ops::Range;
-use vokhsaot::{run, shown, Service, Shape, BUFFER_PIXELS, SEATS};
+use vokhsaot::{shown, Service, BUFFER_PIXELS, SEATS};
 
 /// Print the height of a pixel after each step of a run
 #[derive(clap::Args)]
@@ -51,9 +54,9 @@ const TILE: usize = 32;
 const _: () = assert!(TILE * TILE <= BUFFER_PIXELS);
 
 pub fn command(options: &Options) -> Result<Outcome, Failure> {
-    let (shape, steps) = options.run.read("steps")?;
+    let work = options.run.read("steps")?;
     let picture = files::read_picture(&options.input)?;
-    let (text, broken) = table(&readings(shape, steps, options.at, picture)?);
+    let (text, broken) = table(&readings(work, options.at, picture)?);
     files::print(text.as_bytes())?;
     Ok(Outcome::good_if(broken == 0))
 }
@@ -78,13 +81,8 @@ impl Place {
 }
 
 /// The pixel after 0, 1, .. all steps.
-fn readings(
-    shape: Shape,
-    steps: u32,
-    place: Place,
-    picture: Picture,
-) -> Result<Vec<Reading>, Failure> {
-    let (width, height) = (picture.width, picture.height);
+fn readings(work: Work, place: Place, picture: Picture) -> Result<Vec<Reading>, Failure> {
+    let (width, height, steps) = (picture.width, picture.height, work.steps);
     let mut whole = Part {
         columns: 0..width as usize,
         rows: 0..height as usize,
@@ -94,8 +92,8 @@ fn readings(
     let start = whole.around(place, steps as usize + 1);
     let mut second = vec![0; whole.pixels.len()];
     let first = &mut whole.pixels;
-    run(shape, steps, width, height, first, &mut second)
-        .map_err(|refusal| explained(refusal, shape, steps))?;
+    work.run(width, height, first, &mut second)
+        .map_err(|refusal| explained(refusal, work))?;
     let Place { x, y } = place;
     let start = start.ok_or_else(|| {
         Failure::Input(format!(
@@ -103,11 +101,10 @@ fn readings(
         ))
     })?;
     let stepper = Stepper {
-        shape,
-        steps,
+        work,
         width: width as usize,
         height: height as usize,
-        service: Service::new(),
+        source: Source::of(work)?,
     };
     let mut readings = stepper.readings(start, place)?;
     // Of the run the last two steps are left, each in the picture of its parity.
@@ -181,15 +178,36 @@ impl Part {
     }
 }
 
+/// Where single steps of a run come from.
+enum Source {
+    /// Ticks of the library's service, which is empty between two of them.
+    Ticks(Service),
+    /// The independent program, with the run's weights.
+    Independent(Kernel),
+}
+
+impl Source {
+    /// A job goes by one choice of f, the run perhaps by another; its weights tell whether that matters.
+    fn of(work: Work) -> Result<Source, Failure> {
+        let kernel = work.kernel()?;
+        Ok(if kernel == work.by(JOB_CHOICE).kernel()? {
+            Source::Ticks(Service::new())
+        } else {
+            Source::Independent(Kernel {
+                weights: kernel.weights,
+                sum: kernel.sum,
+            })
+        })
+    }
+}
+
 /// One run's steps over parts of its picture, one at a time.
 struct Stepper {
-    shape: Shape,
-    steps: u32,
+    work: Work,
     /// The sides of the whole picture.
     width: usize,
     height: usize,
-    /// Empty between two steps.
-    service: Service,
+    source: Source,
 }
 
 impl Stepper {
@@ -198,7 +216,7 @@ impl Stepper {
     fn readings(mut self, start: Part, place: Place) -> Result<Vec<Reading>, Failure> {
         let mut readings = vec![self.reading(&start, place)];
         let mut part = start;
-        for reach in (1..=self.steps as usize).rev() {
+        for reach in (1..=self.work.steps as usize).rev() {
             let columns = near(place.x, reach, self.width);
             part = self.step(&part, columns, near(place.y, reach, self.height))?;
             readings.push(self.reading(&part, place));
@@ -226,30 +244,20 @@ impl Stepper {
                     with_margin(&rows, self.height),
                 );
                 let mut tile = part.cut(wide, high);
-                self.tick(&mut tile)?;
+                self.step_tile(&mut tile)?;
                 next.take(&tile, &columns, &rows);
             }
         }
         Ok(next)
     }
 
-    /// One step of a tile: the first tick of a job with the run's shape and all its steps, so with its kernel.
-    fn tick(&mut self, tile: &mut Part) -> Result<(), Failure> {
+    /// One step of a tile, as a picture of its own.
+    fn step_tile(&mut self, tile: &mut Part) -> Result<(), Failure> {
         let (width, height) = (tile.columns.len() as u32, tile.rows.len() as u32);
-        let number = self
-            .service
-            .submit(self.shape, self.steps, width, height, &tile.pixels)?;
-        if self.service.tick()? != Some(number) {
-            return Err(Failure::Input(
-                "a tick did NOT serve the only job".to_owned(),
-            ));
+        match &mut self.source {
+            Source::Ticks(service) => tick(service, self.work, width, height, &mut tile.pixels)?,
+            Source::Independent(kernel) => tile.pixels = step(kernel, &tile.pixels, width, height),
         }
-        // No other seat is filled, so they take turns. After an odd number of steps the second buffer has the picture.
-        let seat = (number - 1) as usize % SEATS;
-        let buffer = (2 * seat + 1) * BUFFER_PIXELS;
-        let after = &self.service.store()[buffer..buffer + tile.pixels.len()];
-        tile.pixels.copy_from_slice(after);
-        self.service.withdraw(number)?;
         Ok(())
     }
 
@@ -265,6 +273,28 @@ impl Stepper {
             run: None,
         }
     }
+}
+
+/// One step of a picture: the first tick of a job with the run's shape and all its steps, so with its kernel.
+fn tick(
+    service: &mut Service,
+    work: Work,
+    width: u32,
+    height: u32,
+    pixels: &mut [u16],
+) -> Result<(), Failure> {
+    let number = service.submit(work.shape, work.steps, width, height, pixels)?;
+    if service.tick()? != Some(number) {
+        return Err(Failure::Input(
+            "a tick did NOT serve the only job".to_owned(),
+        ));
+    }
+    // No other seat is filled, so they take turns. After an odd number of steps the second buffer has the picture.
+    let seat = (number - 1) as usize % SEATS;
+    let buffer = (2 * seat + 1) * BUFFER_PIXELS;
+    pixels.copy_from_slice(&service.store()[buffer..buffer + pixels.len()]);
+    service.withdraw(number)?;
+    Ok(())
 }
 
 /// The pixel after some step.

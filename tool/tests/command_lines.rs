@@ -70,6 +70,10 @@ kernel --matrix 1,2 --steps 1|--matrix: XX,XY,YY is wanted, not "1,2"| kernel
 kernel --matrix 1,,2 --steps 1|--matrix: "" is not a whole number from -2147483648 to 2147483647| kernel
 kernel --oval 1,2,3,4,5 --steps 1|--oval: LONG,SHORT,DEGREES or LONG,SHORT,COSINE,SINE is wanted, not "1,2,3,4,5"| kernel
 completions tcsh|SHELL: "tcsh" is none of bash, elvish, fish, powershell, zsh| completions
+smooth --round 1 --steps 1 --choice largest|--choice: "largest" is none of binomial, smallest| smooth
+kernel --round 1 --steps 1 --choice ""|--choice wants a value| kernel
+kernel --round 1 --steps 1 --choise smallest|there is no option --choise; did you mean --choice?| kernel
+compare a b --choice smallest|--steps is missing| compare
 "#;
 
 #[test]
@@ -295,6 +299,11 @@ fn completions_of_bash() {
             "--steps",
         ),
         (vec!["vokhsaot", "completions", "po"], "powershell"),
+        (vec!["vokhsaot", "kernel", "--ch"], "--choice"),
+        (
+            vec!["vokhsaot", "kernel", "--choice", ""],
+            "binomial smallest",
+        ),
         // The names of operands are no words to type: bash goes on with files.
         (vec!["vokhsaot", "smooth", "["], ""),
         (vec!["vokhsaot", "smooth", "spot"], ""),

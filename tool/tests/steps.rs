@@ -2,12 +2,12 @@
 
 mod common;
 
-use common::{option, plain, Folder};
+use common::{option, plain, Folder, CHOICES};
 use reference::extrema::{is_hollow, is_peak};
 use reference::generate::{random_heights, random_shape};
 use reference::kernel::Kernel;
 use reference::random::Random;
-use reference::shape::{shape_kernel, Shape};
+use reference::shape::{shape_kernel_by, Shape};
 use reference::smooth::{at, step};
 
 /// The longest bar.
@@ -70,12 +70,16 @@ fn expected(
     found
 }
 
-/// A shape with a kernel, and its steps.
-fn work(random: &mut Random) -> (Shape, u32, Kernel) {
+/// A shape with a kernel, its steps, and the kernel of each choice with its option.
+fn work(random: &mut Random) -> (Shape, u32, [(Kernel, &'static str); 3]) {
     loop {
         let (shape, steps) = random_shape(random);
-        if let Ok(kernel) = shape_kernel(shape, steps) {
-            return (shape, steps, kernel);
+        let kernels = CHOICES.map(|(choice, option)| {
+            let kernel = shape_kernel_by(choice, shape, steps).ok();
+            kernel.map(|kernel| (kernel, option))
+        });
+        if let [Some(one), Some(two), Some(three)] = kernels {
+            return (shape, steps, [one, two, three]);
         }
     }
 }
@@ -86,19 +90,24 @@ fn place(random: &mut Random, side: u32) -> u32 {
     random.pick(&[0, side - 1, 1.min(side - 1), any, any, any])
 }
 
-/// One run at one place; the words that came up.
+/// One run by each choice at one place; the words that came up.
 fn compare(random: &mut Random, sides: (u32, u32)) -> Vec<String> {
-    let (shape, steps, kernel) = work(random);
+    let (shape, steps, kernels) = work(random);
     let (width, height) = sides;
     let (x, y) = (place(random, width), place(random, height));
     let picture = random_heights(random, width, height);
     let folder = Folder::new("compared");
-    let line = format!("steps {} --steps {steps} --at {x},{y} -", option(shape));
     let input = plain(width, height, 65535, &picture);
-    let given = lines(&folder.run(&line, input.as_bytes()).text());
-    let expected = expected(&kernel, steps, picture, sides, (x, y));
-    assert_eq!(given, expected, "{line} of {width} × {height}");
-    given.into_iter().map(|line| line.3).collect()
+    let mut words = Vec::new();
+    for (kernel, choice) in kernels {
+        let shape = option(shape);
+        let line = format!("steps {shape} --steps {steps} {choice} --at {x},{y} -");
+        let given = lines(&folder.run(&line, input.as_bytes()).text());
+        let expected = expected(&kernel, steps, picture.clone(), sides, (x, y));
+        assert_eq!(given, expected, "{line} of {width} × {height}");
+        words.extend(given.into_iter().map(|line| line.3));
+    }
+    words
 }
 
 #[test]
@@ -139,10 +148,20 @@ fn the_largest_picture() {
     file.extend(pixels.iter().flat_map(|pixel| pixel.to_be_bytes()));
     let folder = Folder::new("largest");
     folder.file("large.pgm", file);
+    // The two choices have other kernels here.
     let shape = Shape::matrix(150_000, -40_000, 90_000);
-    let kernel = shape_kernel(shape, steps).unwrap();
-    for (x, y) in [(500, 700), (1023, 0), (3, 1022)] {
-        let line = format!("steps {} --steps 64 --at {x},{y} large.pgm", option(shape));
+    let [kernel, _, smallest] =
+        CHOICES.map(|(choice, _)| shape_kernel_by(choice, shape, steps).unwrap());
+    assert_ne!(kernel, smallest);
+    for (x, y, kernel, choice) in [
+        (500, 700, kernel, ""),
+        (500, 700, smallest, "--choice smallest"),
+        (1023, 0, kernel, "--choice binomial"),
+        (1023, 0, smallest, "--choice smallest"),
+        (3, 1022, smallest, "--choice smallest"),
+    ] {
+        let shape = option(shape);
+        let line = format!("steps {shape} --steps 64 {choice} --at {x},{y} large.pgm");
         let given = lines(&folder.run(&line, b"").text());
         // Twice the steps on each side, cut off at the picture's own borders.
         let near = |place: u32| place.saturating_sub(128)..(place + 129).min(side);
@@ -157,7 +176,7 @@ fn the_largest_picture() {
         assert_eq!(
             given,
             expected(&kernel, steps, part, sides, inside),
-            "{x} {y}"
+            "{line}"
         );
     }
 }
@@ -167,8 +186,8 @@ fn the_largest_picture() {
 fn a_peak_that_rises_later() {
     let folder = Folder::new("later");
     let row = plain(3, 1, 64, &[8, 0, 64]);
-    let heights = |x: u32| {
-        let line = format!("steps --matrix 4096,0,0 --steps 2 --at {x},0 -");
+    let heights = |x: u32, choice: &str| {
+        let line = format!("steps --matrix 4096,0,0 --steps 2 {choice} --at {x},0 -");
         let lines = lines(&folder.run(&line, row.as_bytes()).text());
         lines
             .into_iter()
@@ -176,19 +195,38 @@ fn a_peak_that_rises_later() {
             .collect::<Vec<_>>()
     };
     let word = |height, word: &str| (height, word.to_owned());
-    assert_eq!(
-        heights(0),
-        [word(8, "peak"), word(6, "hollow"), word(9, "hollow")]
-    );
-    assert_eq!(
-        heights(2),
-        [word(64, "peak"), word(48, "peak"), word(41, "peak")]
-    );
+    for (_, choice) in CHOICES {
+        assert_eq!(
+            heights(0, choice),
+            [word(8, "peak"), word(6, "hollow"), word(9, "hollow")]
+        );
+        assert_eq!(
+            heights(2, choice),
+            [word(64, "peak"), word(48, "peak"), word(41, "peak")]
+        );
+    }
 }
 
-/// What cannot be done is said as `smooth` says it, whatever the place; a place outside comes last.
+/// Case a, where the choices differ at the first step: 400 of 1600 are left, or none.
 #[test]
-fn refusals_and_places_outside() {
+fn a_spot_by_both_choices() {
+    let folder = Folder::new("choices");
+    let spot = plain(3, 3, 1600, &[0, 0, 0, 0, 1600, 0, 0, 0, 0]);
+    for (choice, after) in [
+        ("", (400, "peak")),
+        ("--choice binomial", (400, "peak")),
+        ("--choice smallest", (0, "hollow")),
+    ] {
+        let line = format!("steps --matrix 2048,0,2048 --steps 1 {choice} --at 1,1 -");
+        let lines = lines(&folder.run(&line, spot.as_bytes()).text());
+        let given: Vec<(u16, &str)> = lines.iter().map(|line| (line.1, line.3.as_str())).collect();
+        assert_eq!(given, [(1600, "peak"), after], "{choice}");
+    }
+}
+
+/// What cannot be done is said as `smooth` says it, whatever the place: a place outside comes last.
+#[test]
+fn refusals_whatever_the_place() {
     let folder = Folder::new("refused");
     folder.file("good.pgm", plain(3, 2, 9, &[1, 2, 3, 4, 5, 6]));
     folder.file("wide.pgm", plain(1025, 1, 1, &[1; 1025]));
@@ -216,16 +254,25 @@ fn refusals_and_places_outside() {
         let start = format!("vokhsaot: {refusal}");
         assert!(smooth.stderr.starts_with(&start), "{}", smooth.stderr);
         assert_eq!(smooth.status, 2);
-        for place in ["0,0", "3,0", "4294967295,4294967295"] {
-            let steps = folder.run(&format!("steps {work} --at {place} {input}"), b"");
-            assert_eq!(steps, smooth, "{work} {input} {place}");
+        for (_, choice) in CHOICES {
+            for place in ["0,0", "3,0", "4294967295,4294967295"] {
+                let line = format!("steps {work} {choice} --at {place} {input}");
+                assert_eq!(folder.run(&line, b""), smooth, "{line}");
+            }
         }
     }
+    assert_eq!(folder.names().len(), 3);
+}
+
+#[test]
+fn places_outside() {
+    let folder = Folder::new("outside");
+    folder.file("good.pgm", plain(3, 2, 9, &[1, 2, 3, 4, 5, 6]));
     for place in ["3,0", "0,2", "3,2", "4294967295,0"] {
         let line = format!("steps --round 1 --steps 2 --at {place} good.pgm");
         let message =
             format!("{place} lies outside the picture: it has 3 × 2 pixels, counted from 0");
         folder.run(&line, b"").assert_failed(2, &message);
     }
-    assert_eq!(folder.names().len(), 3);
+    assert_eq!(folder.names(), ["good.pgm"]);
 }

@@ -2,12 +2,12 @@
 
 mod common;
 
-use common::{netpbm, numbers, option, plain, Folder};
+use common::{netpbm, numbers, option, plain, Folder, CHOICES};
 use reference::generate::{random_heights, random_pixels, random_shape};
-use reference::kernel::Kernel;
+use reference::kernel::{Choice, Kernel};
 use reference::natural::Natural;
 use reference::random::Random;
-use reference::shape::{shape_kernel, Shape};
+use reference::shape::{shape_kernel_by, Shape};
 use reference::smooth::{exact_run, rounded_run, within_half_per_step};
 
 /// A picture of the test.
@@ -44,9 +44,10 @@ impl Picture {
     }
 }
 
-/// The spot of the manual, and what a step makes of it.
+/// The spot of the manual, and what a step of case a makes of it, by the choice smallest and by the other.
 const SPOT: &str = "P2 3 3 1600  0 0 0  0 1600 0  0 0 0";
 const SMOOTH: &str = "P2 3 3 1600  0 400 0  400 0 400  0 400 0";
+const BINOMIAL: &str = "P2 3 3 1600  100 200 100  200 400 200  100 200 100";
 
 #[test]
 fn characters_by_hand() {
@@ -338,26 +339,21 @@ fn differences_by_hand() {
         (String::from_utf8(ran.stdout).unwrap().as_str(), ran.status),
         (text, 1)
     );
-    let ran = folder.run(
-        "compare --matrix 2048,0,2048 --steps 1 spot.pgm smooth.pgm",
-        b"",
-    );
+    let smallest = "--matrix 2048,0,2048 --choice smallest";
+    let line = format!("compare {smallest} --steps 1 spot.pgm smooth.pgm");
+    let ran = folder.run(&line, b"");
     let run =
         "exact run, steps 1: largest distance 0.000 in column 0, row 0 (at most 0.5: within)\n\
                library's run, steps 1: equal\n";
     assert_eq!(ran.text(), format!("{text}{run}"));
     // The same by the fewest steps, and from standard input.
-    let ran = folder.run(
-        "compare --matrix 2048,0,2048 --steps auto spot.pgm",
-        SMOOTH.as_bytes(),
-    );
+    let line = format!("compare {smallest} --steps auto spot.pgm");
+    let ran = folder.run(&line, SMOOTH.as_bytes());
     assert_eq!(ran.text(), format!("{text}{run}"));
     // One unit too much in one place: the run is exact there.
     let wrong = SMOOTH.replacen("400", "401", 1);
-    let ran = folder.run(
-        "compare --matrix 2048,0,2048 --steps 1 spot.pgm -",
-        wrong.as_bytes(),
-    );
+    let line = format!("compare {smallest} --steps 1 spot.pgm -");
+    let ran = folder.run(&line, wrong.as_bytes());
     let run = "exact run, steps 1: largest distance 1.000 in column 1, row 0 (MORE than 0.5)\n\
                library's run, steps 1: 1 of 9 pixels DIFFER, first in column 1, row 0\n";
     let said = String::from_utf8(ran.stdout).unwrap();
@@ -365,16 +361,47 @@ fn differences_by_hand() {
     assert_eq!((ran.status, ran.stderr.as_str()), (1, ""));
     // Halves go up: 0 and 1 in a row become 1 and 1. Two zeros are as near to the exact run, but are not the run.
     folder.file("row.pgm", "P2 2 1 9 0 1");
-    let ran = folder.run(
-        "compare --matrix 4096,0,0 --steps 1 row.pgm",
-        b"P2 2 1 9 0 0",
-    );
-    let run =
-        "exact run, steps 1: largest distance 0.500 in column 0, row 0 (at most 0.5: within)\n\
+    for (_, choice) in CHOICES {
+        let line = format!("compare --matrix 4096,0,0 --steps 1 {choice} row.pgm");
+        let ran = folder.run(&line, b"P2 2 1 9 0 0");
+        let run =
+            "exact run, steps 1: largest distance 0.500 in column 0, row 0 (at most 0.5: within)\n\
                library's run, steps 1: 2 of 2 pixels DIFFER, first in column 0, row 0\n";
-    let said = String::from_utf8(ran.stdout).unwrap();
-    assert!(said.ends_with(run), "{said}");
-    assert_eq!(ran.status, 1);
+        let said = String::from_utf8(ran.stdout).unwrap();
+        assert!(said.ends_with(run), "{said}");
+        assert_eq!(ran.status, 1);
+    }
+}
+
+/// A picture of the other choice differs, and is told to be that.
+#[test]
+fn runs_of_the_other_choice() {
+    let folder = Folder::new("other-choice");
+    folder.file("spot.pgm", SPOT);
+    folder.file("smallest.pgm", SMOOTH);
+    folder.file("binomial.pgm", BINOMIAL);
+    for (_, option) in CHOICES {
+        let own = option.strip_prefix("--choice ").unwrap_or("binomial");
+        let other = ["binomial", "smallest"]
+            .into_iter()
+            .find(|name| *name != own);
+        let other = other.unwrap();
+        let compare = format!("compare --matrix 2048,0,2048 --steps 1 {option} spot.pgm");
+        let equal = folder.run(&format!("{compare} {own}.pgm"), b"").text();
+        assert!(
+            equal.ends_with("library's run, steps 1: equal\n"),
+            "{equal}"
+        );
+        let ran = folder.run(&format!("{compare} {other}.pgm"), b"");
+        let said = String::from_utf8(ran.stdout).unwrap();
+        // The centre is 400 in the one and 0 in the other; so are the pixels beside it, 200 apart.
+        let run = format!(
+            "exact run, steps 1: largest distance 400.000 in column 1, row 1 (MORE than 0.5)\n\
+             library's run, steps 1: 9 of 9 pixels DIFFER, first in column 0, row 0; equal with --choice {other}\n"
+        );
+        assert!(said.ends_with(&run), "{said}");
+        assert_eq!((ran.status, ran.stderr.as_str()), (1, ""));
+    }
 }
 
 /// Equal pixels are equal, whatever the files are otherwise; other sides are an error.
@@ -458,27 +485,38 @@ fn expected_differences(one: &Picture, other: &Picture) -> String {
     )
 }
 
-/// A shape with a kernel, and its steps.
-fn work(random: &mut Random) -> (Shape, u32, Kernel) {
-    loop {
-        let (shape, steps) = random_shape(random);
-        if let Ok(kernel) = shape_kernel(shape, steps) {
-            return (shape, steps, kernel);
-        }
-    }
+/// A run of a picture by a choice, and a picture that is nearly its result.
+struct Trial {
+    shape: Shape,
+    steps: u32,
+    choice_option: &'static str,
+    kernel: Kernel,
+    /// The other choice by name, and its kernel.
+    other_name: &'static str,
+    other_kernel: Kernel,
+    one: Picture,
+    other: Picture,
+    /// The pixel that may differ from the run's.
+    place: u32,
 }
 
-#[test]
-fn runs_of_the_independent_program() {
-    let mut random = Random::new(33);
-    let folder = Folder::new("runs");
-    let (mut near_and_equal, mut near, mut far) = (0, 0, 0);
-    for _ in 0..120 {
-        let (shape, steps, kernel) = work(&mut random);
+impl Trial {
+    fn random(random: &mut Random) -> Trial {
+        let (choice, choice_option) = random.pick(&CHOICES);
+        let (other_choice, other_name) = match choice {
+            Choice::Binomial => (Choice::Smallest, "smallest"),
+            Choice::Smallest => (Choice::Binomial, "binomial"),
+        };
+        let (shape, steps, kernel, other_kernel) = loop {
+            let (shape, steps) = random_shape(random);
+            let kernel = |choice| shape_kernel_by(choice, shape, steps);
+            if let (Ok(kernel), Ok(other)) = (kernel(choice), kernel(other_choice)) {
+                break (shape, steps, kernel, other);
+            }
+        };
         let (width, height) = (1 + random.below(7) as u32, 1 + random.below(7) as u32);
-        let pixels = random_pixels(&mut random, (width * height) as usize);
-        let run = rounded_run(&kernel, &pixels, width, height, steps);
-        let mut other = run.clone();
+        let pixels = random_pixels(random, (width * height) as usize);
+        let mut other = rounded_run(&kernel, &pixels, width, height, steps);
         let most = random.pick(&[0, 1, 2 + steps / 2, 100]);
         let place = random.below(other.len() as u64) as usize;
         other[place] = other[place].saturating_add(random.below(u64::from(most) + 1) as u16);
@@ -487,53 +525,105 @@ fn runs_of_the_independent_program() {
             height,
             pixels,
         });
-        folder.file("one.pgm", one.file());
-        folder.file("other.pgm", other.file());
-        let line = format!(
-            "compare {} --steps {steps} one.pgm other.pgm",
-            option(shape)
-        );
-        let ran = folder.run(&line, b"");
-        let exact = exact_run(&kernel, &one.pixels, width, height, steps);
-        let is_near = within_half_per_step(&other.pixels, &exact, kernel.sum, steps);
-        let scale = Natural::power(kernel.sum, steps);
-        let distances: Vec<Natural> = other
+        Trial {
+            shape,
+            steps,
+            choice_option,
+            kernel,
+            other_name,
+            other_kernel,
+            one,
+            other,
+            place: place as u32,
+        }
+    }
+
+    /// The picture after the run by a kernel.
+    fn run(&self, kernel: &Kernel) -> Vec<u16> {
+        let Picture {
+            width,
+            height,
+            pixels,
+        } = &self.one;
+        rounded_run(kernel, pixels, *width, *height, self.steps)
+    }
+
+    /// The line about the library's run, and how many pixels differ from it.
+    fn equality(&self) -> (String, usize) {
+        let run = self.run(&self.kernel);
+        let pairs = run.iter().zip(&self.other.pixels);
+        let differing = pairs.filter(|(one, other)| one != other).count();
+        let is_other = match self.run(&self.other_kernel) == self.other.pixels {
+            true => format!("; equal with --choice {}", self.other_name),
+            false => String::new(),
+        };
+        let (x, y) = (self.place % self.one.width, self.place / self.one.width);
+        let told = match differing {
+            0 => "equal".to_owned(),
+            _ => format!(
+                "{differing} of {} pixels DIFFER, first in column {x}, row {y}{is_other}",
+                run.len()
+            ),
+        };
+        let line = format!("library's run, steps {}: {told}", self.steps);
+        (line, differing)
+    }
+
+    /// Whether the picture is near the exact run, by its line.
+    fn check_exact(&self, line: &str) -> bool {
+        let (Picture { width, height, .. }, steps) = (&self.one, self.steps);
+        let exact = exact_run(&self.kernel, &self.one.pixels, *width, *height, steps);
+        let sum = self.kernel.sum;
+        let is_near = within_half_per_step(&self.other.pixels, &exact, sum, steps);
+        let scale = Natural::power(sum, steps);
+        let distances: Vec<Natural> = self
+            .other
             .pixels
             .iter()
             .zip(&exact)
             .map(|(pixel, exact)| scale.times((*pixel).into()).distance(exact))
             .collect();
         let largest = distances.iter().max().unwrap().ratio(&scale);
-        let differing = run
-            .iter()
-            .zip(&other.pixels)
-            .filter(|(a, b)| a != b)
-            .count();
+        check_distance(line, steps, *width, largest, is_near, &distances, &scale);
+        is_near
+    }
+
+    /// Compares the pictures; whether the other is near the exact run, and how many of its pixels differ from the run's.
+    fn check(&self, folder: &Folder) -> (bool, usize) {
+        folder.file("one.pgm", self.one.file());
+        folder.file("other.pgm", self.other.file());
+        let work = format!("{} --steps {}", option(self.shape), self.steps);
+        let line = format!("compare {work} {} one.pgm other.pgm", self.choice_option);
+        let ran = folder.run(&line, b"");
         let said = String::from_utf8(ran.stdout).unwrap();
         let lines: Vec<&str> = said.lines().collect();
         assert_eq!(
             format!("{}\n", lines[..3].join("\n")),
-            expected_differences(&one, &other)
+            expected_differences(&self.one, &self.other)
         );
-        check_distance(lines[3], steps, width, largest, is_near, &distances, &scale);
-        let expected = match differing {
-            0 => format!("library's run, steps {steps}: equal"),
-            _ => format!(
-                "library's run, steps {steps}: {differing} of {} pixels DIFFER, first in column {}, row {}",
-                run.len(), place as u32 % width, place as u32 / width
-            ),
-        };
-        assert_eq!((lines[4], lines.len()), (expected.as_str(), 5));
+        let is_near = self.check_exact(lines[3]);
+        let (expected, differing) = self.equality();
+        assert_eq!((lines[4], lines.len()), (expected.as_str(), 5), "{line}");
         let good = is_near && differing == 0;
         assert_eq!((ran.status, ran.stderr.as_str()), (i32::from(!good), ""));
-        match (is_near, differing) {
+        (is_near, differing)
+    }
+}
+
+#[test]
+fn runs_of_the_independent_program() {
+    let mut random = Random::new(33);
+    let folder = Folder::new("runs");
+    let (mut near_and_equal, mut near, mut far) = (0, 0, 0);
+    for _ in 0..240 {
+        match Trial::random(&mut random).check(&folder) {
             (true, 0) => near_and_equal += 1,
             (true, _) => near += 1,
             (false, _) => far += 1,
         }
     }
     assert!(
-        near_and_equal > 20 && near > 10 && far > 20,
+        near_and_equal > 40 && near > 20 && far > 40,
         "{near_and_equal} {near} {far}"
     );
 }

@@ -3,18 +3,20 @@
 -- the borders. Assumes nothing.
 use mathlib.Core.Path.{_≡_, refl, sym, ap, ap₂, subst, _∙_}
 use mathlib.Core.List.{List, [], _∷_, map}
-use Prim.Native.Nat.{ℕ, zero, suc, _+_, _-_, _*_, _^_, min, max}
+use Prim.Native.Nat.{ℕ, zero, suc, _+_, _-_, _*_, _^_}
 use native.Mathlib.Nat.{pow-zero, pow-suc}
 use native.Mathlib.Omega.{arith}
-use borrow.Author.Tests.{leb-true}
 use mathlib.Core.Bool.{true, true≢false}
 use lib.ListN.{length, getD}
 use lib.IntN.{ℤ, pos, negsuc, natAbs, _+ℤ_}
 use Rattle.kernel.specs.Offsets.{Offset, total, weighted}
-use Rattle.kernel.specs.Molecule.{unitsOf, sumOf, kernelWith, kernelOf}
+use Rattle.kernel.specs.declared.Choice.{Choice}
+use Rattle.kernel.specs.Molecule.{unitsOf, sumOf, kernelWith}
+use Rattle.kernel.specs.Choice.{kernelBy}
 use Rattle.kernel.specs.Existence.{kernelExists}
 use Rattle.kernel.specs.declared.Kernel.{Kernel}
-use Rattle.kernel.proofs.Plain.{Between, weights, free, exists-plain, none-x, none-y}
+use Rattle.kernel.proofs.Plain.{Between, weights, freeOf, free-by, none-x, none-y}
+use Rattle.kernel.proofs.Theorems.{between}
 use Rattle.image.specs.Image.{nearestPlace, pixelAt}
 use Rattle.averaging.specs.Steps.{weightedAt, exactStepOf, iterate, exactOf}
 use Rattle.averaging.specs.Distances.{brightness}
@@ -100,15 +102,12 @@ total-kept a b n k between w h =
     brightness-mirrored (kernelWith (pos a) (pos 0) (pos b) (pos n) k) (n + 0 - 0) (2 * (b - n)) (2 * (a - n)) (4 * (m + n - (a + b)))
     symmetric (ap total symmetric ∙ omega (arith, between)) w h
 
--- the same for every covariance with xy = 0 that has a kernel
-pub total-kept-upright : (xx yy : ℤ) (k : ℕ) → kernelExists xx (pos 0) yy (unitsOf k) ≡ true
+-- the same for every covariance with xy = 0 that has a kernel, by each choice
+pub total-kept-upright : (choice : Choice) (xx yy : ℤ) (k : ℕ) → kernelExists xx (pos 0) yy (unitsOf k) ≡ true
     → (w h : ℕ) (pixels : List ℕ) → length pixels ≡ w * h → (j : ℕ)
-    → brightness (exactOf (kernelOf xx (pos 0) yy k) w h j pixels) ≡ sumOf k ^ j * brightness pixels
-total-kept-upright (negsuc a) yy k exists w h pixels fills j = absurd (true≢false (sym exists ∙ none-x a (pos 0) yy (unitsOf k)))
-total-kept-upright (pos a) (negsuc b) k exists w h pixels fills j = absurd (true≢false (sym exists ∙ none-y b (pos a) (pos 0) (unitsOf k)))
-total-kept-upright (pos a) (pos b) k exists w h pixels fills j =
-    let m = unitsOf k in
-    let n = max 0 (a + b - m) in
-    let fits = leb-true n (min a b) (sym (exists-plain a (pos 0) b m) ∙ exists) in
-    ap (λ f. brightness (exactOf (kernelWith (pos a) (pos 0) (pos b) f k) w h j pixels)) (free a (pos 0) b m)
-    ∙ total-kept a b n k (record { leans = omega arith; steps = omega arith; across = omega arith; down = omega arith }) w h pixels fills j
+    → brightness (exactOf (kernelBy choice xx (pos 0) yy k) w h j pixels) ≡ sumOf k ^ j * brightness pixels
+total-kept-upright choice (negsuc a) yy k exists w h pixels fills j = absurd (true≢false (sym exists ∙ none-x a (pos 0) yy (unitsOf k)))
+total-kept-upright choice (pos a) (negsuc b) k exists w h pixels fills j = absurd (true≢false (sym exists ∙ none-y b (pos a) (pos 0) (unitsOf k)))
+total-kept-upright choice (pos a) (pos b) k exists w h pixels fills j =
+    ap (λ f. brightness (exactOf (kernelWith (pos a) (pos 0) (pos b) f k) w h j pixels)) (free-by choice a (pos 0) b (unitsOf k))
+    ∙ total-kept a b (freeOf choice 0 a b (unitsOf k)) k (between choice a (pos 0) b (unitsOf k) exists) w h pixels fills j

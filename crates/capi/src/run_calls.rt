@@ -1,13 +1,16 @@
-// A run between two pictures, exported. What each call writes and refuses is said in picture_calls.
+// A run between two pictures, exported. What each call writes and refuses is said in picture_calls. The choice of the free number
+// is a number: 1 names smallest, and every other the binomial one.
 ghost use mathlib.Core.Path.{_≡_};
 ghost use Rattle.limits.specs.Errors.{outcomeNumber};
+ghost use Rattle.kernel.specs.Choice.{choiceOf};
 ghost use Rattle.smoothing.specs.Runs.{runOf};
 use covariance::Direction;
 use covariance::Shape;
 
 // A run with the kernel whose shape is a covariance matrix in 1/4096 square pixel.
 #[no_mangle]
-pub extern "C" fn vokhsaot_run_matrix(
+pub extern "C" fn vokhsaot_run_matrix_by(
+    choice: u32,
     xx: i32,
     xy: i32,
     yy: i32,
@@ -17,23 +20,18 @@ pub extern "C" fn vokhsaot_run_matrix(
     first: &mut [u16],
     second: &mut [u16],
 ) -> u32
-    ensures { λ r. ⌜ r ≡ outcomeNumber (runOf (Shape.Matrix xx xy yy) steps width height (now (first .entry)) (now (second .entry)) .outcome) ⌝ }
-    ensures { λ _. ⌜ now (first .exit) ≡ runOf (Shape.Matrix xx xy yy) steps width height (now (first .entry)) (now (second .entry)) .first ⌝ }
-    ensures { λ _. ⌜ now (second .exit) ≡ runOf (Shape.Matrix xx xy yy) steps width height (now (first .entry)) (now (second .entry)) .second ⌝ }
+    ensures { λ r. ⌜ r ≡ outcomeNumber (runOf (choiceOf choice) (Shape.Matrix xx xy yy) steps width height (now (first .entry)) (now (second .entry)) .outcome) ⌝ }
+    ensures { λ _. ⌜ now (first .exit) ≡ runOf (choiceOf choice) (Shape.Matrix xx xy yy) steps width height (now (first .entry)) (now (second .entry)) .first ⌝ }
+    ensures { λ _. ⌜ now (second .exit) ≡ runOf (choiceOf choice) (Shape.Matrix xx xy yy) steps width height (now (first .entry)) (now (second .entry)) .second ⌝ }
 {
-    picture_calls::run(
-        Shape::Matrix(xx, xy, yy),
-        steps,
-        width,
-        height,
-        first,
-        second,
-    )
+    let matrix = Shape::Matrix(xx, xy, yy);
+    picture_calls::run(choice, matrix, steps, width, height, first, second)
 }
 
 // A run with the kernel whose shape is round, of this variance in square pixels.
 #[no_mangle]
-pub extern "C" fn vokhsaot_run_round(
+pub extern "C" fn vokhsaot_run_round_by(
+    choice: u32,
     variance: f64,
     steps: u32,
     width: u32,
@@ -41,16 +39,18 @@ pub extern "C" fn vokhsaot_run_round(
     first: &mut [u16],
     second: &mut [u16],
 ) -> u32
-    ensures { λ r. ⌜ r ≡ outcomeNumber (runOf (Shape.Round variance) steps width height (now (first .entry)) (now (second .entry)) .outcome) ⌝ }
-    ensures { λ _. ⌜ now (first .exit) ≡ runOf (Shape.Round variance) steps width height (now (first .entry)) (now (second .entry)) .first ⌝ }
-    ensures { λ _. ⌜ now (second .exit) ≡ runOf (Shape.Round variance) steps width height (now (first .entry)) (now (second .entry)) .second ⌝ }
+    ensures { λ r. ⌜ r ≡ outcomeNumber (runOf (choiceOf choice) (Shape.Round variance) steps width height (now (first .entry)) (now (second .entry)) .outcome) ⌝ }
+    ensures { λ _. ⌜ now (first .exit) ≡ runOf (choiceOf choice) (Shape.Round variance) steps width height (now (first .entry)) (now (second .entry)) .first ⌝ }
+    ensures { λ _. ⌜ now (second .exit) ≡ runOf (choiceOf choice) (Shape.Round variance) steps width height (now (first .entry)) (now (second .entry)) .second ⌝ }
 {
-    picture_calls::run(Shape::Round(variance), steps, width, height, first, second)
+    let round = Shape::Round(variance);
+    picture_calls::run(choice, round, steps, width, height, first, second)
 }
 
 // A run with the kernel whose shape is oval, by its variances along and across a direction.
 #[no_mangle]
-pub extern "C" fn vokhsaot_run_oval(
+pub extern "C" fn vokhsaot_run_oval_by(
+    choice: u32,
     long: f64,
     short: f64,
     cosine: f64,
@@ -61,16 +61,10 @@ pub extern "C" fn vokhsaot_run_oval(
     first: &mut [u16],
     second: &mut [u16],
 ) -> u32
-    ensures { λ r. ⌜ r ≡ outcomeNumber (runOf (Shape.Oval long short (record { cosine = cosine; sine = sine })) steps width height (now (first .entry)) (now (second .entry)) .outcome) ⌝ }
-    ensures { λ _. ⌜ now (first .exit) ≡ runOf (Shape.Oval long short (record { cosine = cosine; sine = sine })) steps width height (now (first .entry)) (now (second .entry)) .first ⌝ }
-    ensures { λ _. ⌜ now (second .exit) ≡ runOf (Shape.Oval long short (record { cosine = cosine; sine = sine })) steps width height (now (first .entry)) (now (second .entry)) .second ⌝ }
+    ensures { λ r. ⌜ r ≡ outcomeNumber (runOf (choiceOf choice) (Shape.Oval long short (record { cosine = cosine; sine = sine })) steps width height (now (first .entry)) (now (second .entry)) .outcome) ⌝ }
+    ensures { λ _. ⌜ now (first .exit) ≡ runOf (choiceOf choice) (Shape.Oval long short (record { cosine = cosine; sine = sine })) steps width height (now (first .entry)) (now (second .entry)) .first ⌝ }
+    ensures { λ _. ⌜ now (second .exit) ≡ runOf (choiceOf choice) (Shape.Oval long short (record { cosine = cosine; sine = sine })) steps width height (now (first .entry)) (now (second .entry)) .second ⌝ }
 {
-    picture_calls::run(
-        Shape::Oval(long, short, Direction { cosine, sine }),
-        steps,
-        width,
-        height,
-        first,
-        second,
-    )
+    let oval = Shape::Oval(long, short, Direction { cosine, sine });
+    picture_calls::run(choice, oval, steps, width, height, first, second)
 }

@@ -10,6 +10,7 @@ use Rattle.limits.specs.Errors.{Check, _otherwise_, firstRefusal, outcomeNumber
 use Rattle.limits.specs.declared.ErrorCode.{ErrorCode}
 use Rattle.limits.specs.declared.ErrorCode.the-variants.{VarianceOutOfRange, NotADirection}
 use Rattle.limits.specs.declared.Outcome.{Outcome}
+use Rattle.kernel.specs.declared.Choice.{Choice}
 use Rattle.kernel.specs.Answer.{noKernel, kernelAnswer}
 use Rattle.covariance.specs.declared.Shape.{Shape}
 use Rattle.covariance.specs.declared.Shape.the-variants.{Matrix}
@@ -79,9 +80,9 @@ module _ (shape : Shape) where
       go false d = (λ h. absurd (omega arith), λ h. refl)
 
   -- ---- and so the kernel of a shape is that of its numbers
-  pub kernel-passed : {xx xy yy : ℤ} (k : ℕ) → Passed shape xx xy yy → kernelAnswer xx xy yy k ≡ shapeKernelAnswer shape k
-  kernel-passed k p = rw (p .variances, p .direction, p .is-xx, p .is-xy, p .is-yy)
+  pub kernel-passed : (choice : Choice) {xx xy yy : ℤ} (k : ℕ) → Passed shape xx xy yy → kernelAnswer choice xx xy yy k ≡ shapeKernelAnswer choice shape k
+  kernel-passed choice k p = rw (p .variances, p .direction, p .is-xx, p .is-xy, p .is-yy)
 
-  pub kernel-stopped : (code : ErrorCode) (k : ℕ) → covarianceAnswer shape ≡ Covariance.Refused code
-      → record { outcome = Outcome.Refused code; kernel = noKernel } ≡ shapeKernelAnswer shape k
-  kernel-stopped code k h = rw (stopped code _ h)
+  pub kernel-stopped : (choice : Choice) (code : ErrorCode) (k : ℕ) → covarianceAnswer shape ≡ Covariance.Refused code
+      → record { outcome = Outcome.Refused code; kernel = noKernel } ≡ shapeKernelAnswer choice shape k
+  kernel-stopped choice code k h = rw (stopped code _ h)

@@ -6,11 +6,12 @@ use Rattle.limits.specs.Limits.{stepsInRange}
 use Rattle.limits.specs.Errors.{Check, _otherwise_, firstRefusal, numberOf}
 use Rattle.limits.specs.declared.Outcome.{Outcome}
 use Rattle.limits.specs.declared.ErrorCode.the-variants.{VarianceOutOfRange, NotADirection, StepsOutOfRange, NoKernel}
+use Rattle.kernel.specs.declared.Choice.{Choice}
 use Rattle.kernel.specs.declared.KernelAnswer.{KernelAnswer}
 use Rattle.kernel.specs.Answer.{answerWith}
 use Rattle.covariance.specs.declared.Shape.{Shape}
 use Rattle.covariance.specs.declared.Covariance.{Covariance}
-use Rattle.covariance.specs.Shapes.{variancesFine, directionFine, covarianceXX, covarianceXY, covarianceYY, shapeHasKernel, kernelOfShape}
+use Rattle.covariance.specs.Shapes.{variancesFine, directionFine, covarianceXX, covarianceXY, covarianceYY, shapeHasKernel, kernelOfShapeBy}
 
 -- each answer's number in document 01, 0 where the shape is accepted, and the values that it carries
 abbrev pub covarianceNumber : Covariance → ℕ
@@ -45,6 +46,6 @@ shapeKernelChecks shape k =
     ∷ (shapeHasKernel shape k otherwise NoKernel)
     ∷ []
 
-abbrev pub shapeKernelAnswer : Shape → ℕ → KernelAnswer
-shapeKernelAnswer shape k =
-    answerWith (firstRefusal (shapeKernelChecks shape k)) (kernelOfShape shape k)
+abbrev pub shapeKernelAnswer : Choice → Shape → ℕ → KernelAnswer
+shapeKernelAnswer choice shape k =
+    answerWith (firstRefusal (shapeKernelChecks shape k)) (kernelOfShapeBy choice shape k)

@@ -4,8 +4,10 @@ use mathlib.Core.Bool.{Bool, true, false, _&&_}
 use Prim.Native.Nat.{ℕ}
 use lib.IntN.{ℤ, pos, negsuc}
 use lib.Ieee.{Float, fin}
+use Rattle.kernel.specs.declared.Choice.{Choice}
 use Rattle.kernel.specs.declared.Kernel.{Kernel}
 use Rattle.kernel.specs.Molecule.{unitsOf, kernelOf}
+use Rattle.kernel.specs.Choice.{kernelBy}
 use Rattle.kernel.specs.Existence.{kernelExists}
 use Rattle.covariance.specs.declared.Direction.{Direction}
 use Rattle.covariance.specs.declared.Shape.{Shape}
@@ -75,3 +77,7 @@ shapeHasKernel shape k = kernelExists (covarianceXX shape) (covarianceXY shape) 
 
 abbrev pub kernelOfShape : Shape → ℕ → Kernel
 kernelOfShape shape k = kernelOf (covarianceXX shape) (covarianceXY shape) (covarianceYY shape) k
+
+-- document 02, S-2: and the kernel by a choice; the one above is that of "smallest"
+abbrev pub kernelOfShapeBy : Choice → Shape → ℕ → Kernel
+kernelOfShapeBy choice shape k = kernelBy choice (covarianceXX shape) (covarianceXY shape) (covarianceYY shape) k

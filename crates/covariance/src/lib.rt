@@ -9,7 +9,9 @@ ghost use Rattle.covariance.specs.Floats.{inRange};
 ghost use Rattle.covariance.specs.Units.{nearestUnits};
 ghost use Rattle.covariance.specs.Cuts.{Within, UpTo, wholeBelow, wholeAbove, mostSquares, mostUnits, mostHalves};
 ghost use Rattle.covariance.specs.Shapes.{varianceInRange, directionInRange, variancesFine, directionFine, ovalXX, ovalXY, ovalYY};
+ghost use Rattle.kernel.specs.Choice.{defaultChoice};
 ghost use Rattle.covariance.specs.Answer.{entriesOf, covarianceAnswer, shapeKernelAnswer};
+use kernel::Choice;
 use kernel::KernelAnswer;
 use limits::ErrorCode;
 
@@ -194,12 +196,19 @@ pub fn covariance_of(shape: Shape) -> Covariance
     entries_of(shape)
 }
 
-// The kernel of a shape and a step count, or refusal 3, 4, 5 or 11, the first that applies in that order.
-pub fn kernel_of_shape(shape: Shape, steps: u32) -> KernelAnswer
-    ensures { λ r. ⌜ r ≡ shapeKernelAnswer shape steps ⌝ }
+// The kernel of a shape and a step count by a choice, or refusal 3, 4, 5 or 11, the first that applies in that order.
+pub fn kernel_of_shape_by(choice: Choice, shape: Shape, steps: u32) -> KernelAnswer
+    ensures { λ r. ⌜ r ≡ shapeKernelAnswer choice shape steps ⌝ }
 {
     match covariance_of(shape) {
-        Covariance::Entries(xx, xy, yy) => kernel::kernel_of(xx, xy, yy, steps),
+        Covariance::Entries(xx, xy, yy) => kernel::kernel_by(choice, xx, xy, yy, steps),
         Covariance::Refused(code) => kernel::refused(code),
     }
+}
+
+// The same where no choice is named.
+pub fn kernel_of_shape(shape: Shape, steps: u32) -> KernelAnswer
+    ensures { λ r. ⌜ r ≡ shapeKernelAnswer defaultChoice shape steps ⌝ }
+{
+    kernel_of_shape_by(Choice::Binomial, shape, steps)
 }

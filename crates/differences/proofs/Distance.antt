@@ -1,15 +1,22 @@
 -- The distance of the differences of a rounded run from those of the exact run, for every stencil at once: each entry is within
 -- half a unit for a step, and counts as often as its coefficient is large. Assumes nothing.
 use mathlib.Core.Path.{_≡_, refl, sym, ap, ap₂, subst₂, _∙_}
+use mathlib.Core.Bool.{true}
 use mathlib.Core.List.{List, [], _∷_}
 use Prim.Native.Nat.{ℕ, _+_, _*_, _/_, _^_, _≤_, _<_}
 use native.Mathlib.Nat.{mul-le-mul-left}
 use native.Mathlib.Omega.{arith}
 use lib.ListN.{length, getD}
 use lib.IntN.{ℤ, pos, natAbs, negℤ, _+ℤ_, _-ℤ_, _*ℤ_}
+use Rattle.limits.specs.Limits.{stepsInRange}
+use Rattle.kernel.specs.Molecule.{sumOf}
 use Rattle.kernel.specs.Sound.{Sound}
+use Rattle.kernel.specs.declared.Choice.{Choice}
 use Rattle.kernel.specs.declared.Kernel.{Kernel}
 use Rattle.kernel.proofs.Signs.{diff, plus, minus, equal, crossed, parts, neg-parts, sum, times}
+use Rattle.kernel.proofs.Theorems.{sound-by}
+use Rattle.covariance.specs.declared.Shape.{Shape}
+use Rattle.covariance.specs.Shapes.{covarianceXX, covarianceXY, covarianceYY, shapeHasKernel, kernelOfShapeBy}
 use Rattle.image.specs.Image.{pixelAt}
 use Rattle.averaging.specs.Steps.{stepsOf, exactOf}
 use Rattle.averaging.specs.Distances.{Differ, Distance}
@@ -96,3 +103,14 @@ module _ (kernel : Kernel) (k : ℕ) (sound : Sound kernel k) (w h : ℕ) (pixel
       (sym (image-entry w h (stencilAt (stencilOf which) w h r) (pos 0) x y a b))
       (sym (image-entry w h (stencilAt (stencilOf which) w h e) (pos 0) x y a b))
       (omega (arith, stencils-after-run (stencilOf which) x y a b, ap (λ n. n * scale) (half-size which))))
+
+-- "After a k-step run they lie within k, 2k and 2k units of the exact run's", of the kernel of a shape by each choice: the rounded
+-- run and the exact one by the same
+pub differences-by-choice : (choice : Choice) (shape : Shape) (k w h : ℕ) (pixels : List ℕ) → stepsInRange k ≡ true
+    → shapeHasKernel shape k ≡ true → length pixels ≡ w * h → (which : Difference) (i : ℕ) → i < w * h
+    → CloseTo (unitsPerStep which) (sumOf k) k (getD (differencesOf which w h (stepsOf (kernelOfShapeBy choice shape k) w h k pixels)) i (pos 0))
+    (getD (differencesOf which w h (exactOf (kernelOfShapeBy choice shape k) w h k pixels)) i (pos 0))
+differences-by-choice choice shape k w h pixels steps exists fills which i l =
+    let kernel = kernelOfShapeBy choice shape k in
+    let sound = sound-by choice (covarianceXX shape) (covarianceXY shape) (covarianceYY shape) k steps exists in
+    rw (← sound .sum) (differences-after-run kernel k sound w h pixels fills k which i l)

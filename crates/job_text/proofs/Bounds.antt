@@ -17,7 +17,8 @@ use Rattle.limits.proofs.Laws.{both-true, in-range}
 use Rattle.kernel.specs.Offsets.{Offset, offsets, sumOver, total}
 use Rattle.kernel.specs.Sound.{Sound}
 use Rattle.kernel.specs.declared.Kernel.{Kernel}
-use Rattle.kernel.proofs.Theorems.{sound}
+use Rattle.kernel.specs.Choice.{defaultChoice}
+use Rattle.kernel.proofs.Theorems.{sound-by}
 use Rattle.limits.proofs.Checks.{all-hold}
 use Rattle.averaging.specs.Steps.{stepsOf}
 use Rattle.averaging.proofs.Runs.{length-steps}
@@ -129,7 +130,7 @@ module _ (job : Job) (types : InTypes job) (count : length (job .pixels) ≤ mos
       let kernel = jobKernel h in
       let holds = all-hold (jobChecks h) e in
       let sides = both-true (sideInRange (h .width)) (sideInRange (h .height)) (holds .1 .0) in
-      let good = sound (h .xx) (h .xy) (h .yy) (h .steps) (holds .0) (holds .1 .1 .0) in
+      let good = sound-by defaultChoice (h .xx) (h .xy) (h .yy) (h .steps) (holds .0) (holds .1 .1 .0) in
       let after = stepsOf kernel (h .width) (h .height) (h .steps) (job .pixels) in
       let long : length after ≡ h .width * h .height = length-steps kernel (h .width) (h .height) (job .pixels) (types .count) (h .steps) in
       let small = each-most largestPixel after (λ i l. stays-pixel kernel (h .steps) good (h .width) (h .height) (job .pixels) (types .count) (at-most largestPixel (job .pixels) (types .pixels)) (h .steps) i (rw long at l)) in

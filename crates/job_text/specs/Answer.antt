@@ -10,7 +10,8 @@ use Rattle.limits.specs.Errors.{Check, _otherwise_, firstRefusal, numberOf}
 use Rattle.limits.specs.declared.ErrorCode.the-variants.{TextIsNoJob, StepsOutOfRange, SideOutOfRange, WrongLength, NoKernel}
 use Rattle.limits.specs.declared.Outcome.{Outcome}
 use Rattle.limits.specs.declared.Outcome.the-variants.{Accepted, Refused}
-use Rattle.kernel.specs.Molecule.{unitsOf, kernelOf}
+use Rattle.kernel.specs.Molecule.{unitsOf}
+use Rattle.kernel.specs.Choice.{defaultChoice, kernelBy}
 use Rattle.kernel.specs.Existence.{kernelExists}
 use Rattle.kernel.specs.declared.Kernel.{Kernel}
 use Rattle.averaging.specs.Steps.{stepsOf}
@@ -38,8 +39,9 @@ jobChecks h =
     ∷ (kernelExists (h .xx) (h .xy) (h .yy) (unitsOf (h .steps)) otherwise NoKernel)
     ∷ []
 
+-- document 02, S-2: "the bench program, get the new one"
 abbrev pub jobKernel : Header → Kernel
-jobKernel h = kernelOf (h .xx) (h .xy) (h .yy) (h .steps)
+jobKernel h = kernelBy defaultChoice (h .xx) (h .xy) (h .yy) (h .steps)
 
 -- the kernel of a job, and a picture
 abbrev pub shownText : Header → List ℕ → List ℕ

@@ -11,6 +11,7 @@ use covariance::Shape;
 use job_parser::Header;
 use job_parser::JobText;
 use job_parser::MOST_PIXELS;
+use kernel::Choice;
 use limits::ErrorCode;
 use limits::Outcome;
 
@@ -36,7 +37,13 @@ fn put_result(out: &mut [u8], header: Header, pixels: &[u16]) -> usize
     requires { ⌜ length (shownText header (now pixels)) ≤ length (now out) ⌝ }
     ensures { λ r. ⌜ Wrote (now (out .entry)) 0 (shownText header (now (pixels .entry))) (now (out .exit)) r ⌝ }
 {
-    let answer = kernel::kernel_of(header.xx, header.xy, header.yy, header.steps);
+    let answer = kernel::kernel_by(
+        Choice::Binomial,
+        header.xx,
+        header.xy,
+        header.yy,
+        header.steps,
+    );
     let kernel = answer.kernel;
     let next = job_printer::put_kernel(out, 0, kernel);
     job_printer::put_picture(out, next, pixels, header.width, header.height)

@@ -13,18 +13,20 @@ use lib.Signed.{ltZ}
 use Rattle.limits.specs.Limits.{stepsInRange}
 use Rattle.limits.specs.declared.Outcome.the-variants.{Accepted, Refused}
 use Rattle.limits.specs.declared.ErrorCode.the-variants.{NoKernel}
-use Rattle.kernel.specs.Molecule.{unitsOf, sumOf, molecule, kernelWith, kernelOf}
+use Rattle.kernel.specs.declared.Choice.{Choice}
+use Rattle.kernel.specs.Molecule.{unitsOf, sumOf, kernelWith}
+use Rattle.kernel.specs.Choice.{kernelBy}
 use Rattle.kernel.specs.Existence.{kernelExists}
 use Rattle.kernel.specs.Answer.{noKernel, kernelAnswer}
-use Rattle.kernel.proofs.Plain.{free, exists-plain, none-x, none-y, plain, Between, weights}
+use Rattle.kernel.proofs.Plain.{unsigned, exists-plain, none-x, none-y, plain, Between, weights}
 
-pub absent : (x z y : ℤ) (k : ℕ) → stepsInRange k ≡ true → kernelExists x z y (unitsOf k) ≡ false
-    → kernelAnswer x z y k ≡ record { outcome = Refused NoKernel; kernel = noKernel }
-absent x z y k s e = rw (s, e)
+pub absent : (choice : Choice) (x z y : ℤ) (k : ℕ) → stepsInRange k ≡ true → kernelExists x z y (unitsOf k) ≡ false
+    → kernelAnswer choice x z y k ≡ record { outcome = Refused NoKernel; kernel = noKernel }
+absent choice x z y k s e = rw (s, e)
 
-pub present : (x z y : ℤ) (k : ℕ) → stepsInRange k ≡ true → kernelExists x z y (unitsOf k) ≡ true
-    → kernelAnswer x z y k ≡ record { outcome = Accepted; kernel = kernelOf x z y k }
-present x z y k s e = rw (s, e)
+pub present : (choice : Choice) (x z y : ℤ) (k : ℕ) → stepsInRange k ≡ true → kernelExists x z y (unitsOf k) ≡ true
+    → kernelAnswer choice x z y k ≡ record { outcome = Accepted; kernel = kernelBy choice x z y k }
+present choice x z y k s e = rw (s, e)
 
 pub negative-x : (x z y : ℤ) (m : ℕ) → ltZ x (pos 0) ≡ true → kernelExists x z y m ≡ false
 negative-x (pos a) z y m h = let g = ltb-true a 0 h in absurd (omega arith)
@@ -34,41 +36,37 @@ pub negative-y : (x z y : ℤ) (m : ℕ) → ltZ y (pos 0) ≡ true → kernelEx
 negative-y x z (pos b) m h = let g = ltb-true b 0 h in absurd (omega arith)
 negative-y x z (negsuc b) m h = none-y b x z m
 
--- the free number of a covariance whose signs are off
-abbrev pub freeOf : ℤ → ℤ → ℤ → ℕ → ℕ
-freeOf x z y m = max (natAbs z) (natAbs x + natAbs y - m)
+-- the smallest free number of a covariance whose signs are off
+abbrev pub smallestOf : ℤ → ℤ → ℤ → ℕ → ℕ
+smallestOf x z y m = max (natAbs z) (natAbs x + natAbs y - m)
 
 test : (x z y : ℤ) (m : ℕ) → ltZ x (pos 0) ≡ false → ltZ y (pos 0) ≡ false
-    → kernelExists x z y m ≡ leb (freeOf x z y m) (min (natAbs x) (natAbs y))
+    → kernelExists x z y m ≡ leb (smallestOf x z y m) (min (natAbs x) (natAbs y))
 test (pos a) z (pos b) m h g = exists-plain a z b m
 test (pos a) z (negsuc b) m h g = absurd (true≢false g)
 test (negsuc a) z (pos b) m h g = absurd (true≢false h)
 test (negsuc a) z (negsuc b) m h g = absurd (true≢false h)
 
 module _ (x z y : ℤ) (m : ℕ) (h : ltZ x (pos 0) ≡ false) (g : ltZ y (pos 0) ≡ false) where
-  pub too-large-x : natAbs x < freeOf x z y m → kernelExists x z y m ≡ false
-  too-large-x l = test x z y m h g ∙ lt-leb (freeOf x z y m) (min (natAbs x) (natAbs y)) (omega arith)
+  pub too-large-x : natAbs x < smallestOf x z y m → kernelExists x z y m ≡ false
+  too-large-x l = test x z y m h g ∙ lt-leb (smallestOf x z y m) (min (natAbs x) (natAbs y)) (omega arith)
 
-  pub too-large-y : natAbs y < freeOf x z y m → kernelExists x z y m ≡ false
-  too-large-y l = test x z y m h g ∙ lt-leb (freeOf x z y m) (min (natAbs x) (natAbs y)) (omega arith)
+  pub too-large-y : natAbs y < smallestOf x z y m → kernelExists x z y m ≡ false
+  too-large-y l = test x z y m h g ∙ lt-leb (smallestOf x z y m) (min (natAbs x) (natAbs y)) (omega arith)
 
-  pub fits : freeOf x z y m ≤ natAbs x → freeOf x z y m ≤ natAbs y → kernelExists x z y m ≡ true
-  fits l r = test x z y m h g ∙ le-leb (freeOf x z y m) (min (natAbs x) (natAbs y)) (omega arith)
+  pub fits : smallestOf x z y m ≤ natAbs x → smallestOf x z y m ≤ natAbs y → kernelExists x z y m ≡ true
+  fits l r = test x z y m h g ∙ le-leb (smallestOf x z y m) (min (natAbs x) (natAbs y)) (omega arith)
 
-between : (a c b m : ℕ) → max c (a + b - m) ≤ a → max c (a + b - m) ≤ b → Between a c b (max c (a + b - m)) m
-between a c b m l r = record { leans = omega arith; steps = omega arith; across = l; down = r }
-
-pub weights-of : (x z y : ℤ) (k : ℕ) → ltZ x (pos 0) ≡ false → ltZ y (pos 0) ≡ false
-    → freeOf x z y (unitsOf k) ≤ natAbs x → freeOf x z y (unitsOf k) ≤ natAbs y
-    → kernelOf x z y k ≡ record { weights = plain (natAbs x) z (natAbs y) (freeOf x z y (unitsOf k)) (unitsOf k); sum = sumOf k }
+-- the kernel of a free number between the bounds, in naturals
+pub made-with : (a : ℕ) (z : ℤ) (b n k : ℕ) → Between a (natAbs z) b n (unitsOf k)
+    → kernelWith (pos a) z (pos b) (pos n) k ≡ record { weights = plain a z b n (unitsOf k); sum = sumOf k }
 unfolding kernelWith
-weights-of (pos a) z (pos b) k h g l r =
-    ap (λ ws. record { weights = map natAbs ws; sum = sumOf k })
-    (ap (λ f. molecule (pos a) z (pos b) f (unitsOf k)) (free a z b (unitsOf k))
-    ∙ weights a z b (freeOf (pos a) z (pos b) (unitsOf k)) (unitsOf k) (between a (natAbs z) b (unitsOf k) l r))
-weights-of (pos a) z (negsuc b) k h g l r = absurd (true≢false g)
-weights-of (negsuc a) z (pos b) k h g l r = absurd (true≢false h)
-weights-of (negsuc a) z (negsuc b) k h g l r = absurd (true≢false h)
+made-with a z b n k h = ap (λ ws. record { weights = map natAbs ws; sum = sumOf k }) (weights a z b n (unitsOf k) h)
+
+-- two variances that are not negative are the naturals that the code works with
+pub by-size : (choice : Choice) (x z y : ℤ) (k : ℕ) → ltZ x (pos 0) ≡ false → ltZ y (pos 0) ≡ false
+    → kernelBy choice (pos (natAbs x)) z (pos (natAbs y)) k ≡ kernelBy choice x z y k
+by-size choice x z y k h g = rw (← unsigned x h, ← unsigned y g)
 
 -- the two diagonals, by the sign of xy
 abbrev pub five : ℕ → ℕ → ℕ → ℕ → ℕ → ℕ → List ℕ

@@ -4,4 +4,6 @@ pub mod Moments
 pub mod Plain
 pub mod Answers
 pub mod Theorems
+pub mod Centre
 pub mod Examples
+pub mod Choices

@@ -1,14 +1,18 @@
--- The free number, the existence test and the molecule in naturals, once the signs are off. Assumes nothing.
+-- The free number of each choice, the existence test and the molecule in naturals, once the signs are off. Assumes nothing.
 use mathlib.Core.Path.{_≡_, refl, ap, ap₂, _∙_}
 use mathlib.Core.Bool.{Bool, true, false, not, cond, true≢false}
 use mathlib.Core.List.{List, [], _∷_, map}
-use Prim.Native.Nat.{ℕ, _+_, _-_, _*_, _≤_, _<_, min, max}
+use Prim.Native.Nat.{ℕ, zero, suc, _+_, _-_, _*_, _/_, _≤_, _<_, min, max}
+use native.Mathlib.Nat.{le-refl}
 use native.Mathlib.Omega.{arith}
 use lib.Dec.{T, leb, leb→le, nleb→lt}
-use lib.IntN.{ℤ, pos, negsuc, natAbs, _+ℤ_, _-ℤ_}
+use lib.IntN.{ℤ, pos, negsuc, negℤ, natAbs, _+ℤ_, _-ℤ_}
 use lib.Signed.{leZ, ltZ}
 use borrow.Author.Tests.{ltb-true}
+use Rattle.kernel.specs.declared.Choice.{Choice}
+use Rattle.kernel.specs.declared.Choice.the-variants.{Binomial, Smallest}
 use Rattle.kernel.specs.Molecule.{larger, smaller, freeNumber, molecule}
+use Rattle.kernel.specs.Choice.{halfUp, binomialBound, freeNumberBy}
 use Rattle.kernel.specs.Existence.{kernelExists}
 use Rattle.kernel.proofs.Signs.{plus, minus, parts, neg-parts, sum, is-pos, is-plus}
 
@@ -22,14 +26,14 @@ unsigned (pos n) h = refl
 unsigned (negsuc n) h = absurd (true≢false h)
 
 -- ---- the larger and the smaller of two
-choose : (a b : ℕ) → cond (leb a b) (pos b) (pos a) ≡ pos (max a b)
+pub choose : (a b : ℕ) → cond (leb a b) (pos b) (pos a) ≡ pos (max a b)
 choose a b = go (leb a b) (leb→le a b) (nleb→lt a b)
   where
     go : (t : Bool) → (T t → a ≤ b) → (T (not t) → b < a) → cond t (pos b) (pos a) ≡ pos (max a b)
     go true f g = let h = f tt in ap pos (omega arith)
     go false f g = let h = g tt in ap pos (omega arith)
 
-choose-smaller : (a b : ℕ) → cond (leb a b) (pos a) (pos b) ≡ pos (min a b)
+pub choose-smaller : (a b : ℕ) → cond (leb a b) (pos a) (pos b) ≡ pos (min a b)
 choose-smaller a b = go (leb a b) (leb→le a b) (nleb→lt a b)
   where
     go : (t : Bool) → (T t → a ≤ b) → (T (not t) → b < a) → cond t (pos a) (pos b) ≡ pos (min a b)
@@ -46,6 +50,35 @@ over a b m = ap plus (ap₂ _+ℤ_ (parts (pos (a + b))) (neg-parts (pos m)) ∙
 
 pub free : (a : ℕ) (xy : ℤ) (b m : ℕ) → freeNumber (pos a) xy (pos b) m ≡ pos (max (natAbs xy) (a + b - m))
 free a xy b m = larger-pos (natAbs xy) (pos a +ℤ pos b -ℤ pos m) ∙ ap (λ x. pos (max (natAbs xy) x)) (over a b m)
+
+-- ---- and of a choice
+abbrev pub boundOf : ℕ → ℕ → ℕ → ℕ → ℕ
+boundOf c a b m = max (max c (a + b - m)) ((a + b + max a b - m + 1) / 2)
+
+abbrev pub freeOf : Choice → ℕ → ℕ → ℕ → ℕ → ℕ
+freeOf Binomial c a b m = min (boundOf c a b m) (min a b)
+freeOf Smallest c a b m = max c (a + b - m)
+
+negated-plus : (n : ℕ) → plus (negℤ (pos n)) ≡ 0
+negated-plus zero = refl
+negated-plus (suc n) = refl
+
+half-plus : (z : ℤ) → plus (halfUp z) ≡ (plus z + 1) / 2
+half-plus (pos n) = refl
+half-plus (negsuc n) = negated-plus ((n + 1) / 2)
+
+three : (a b m : ℕ) → plus (pos a +ℤ pos b +ℤ larger (pos a) (pos b) -ℤ pos m) ≡ a + b + max a b - m
+three a b m = ap (λ l. plus (pos a +ℤ pos b +ℤ l -ℤ pos m)) (choose a b) ∙ over (a + b) (max a b) m
+
+pub bound : (a : ℕ) (xy : ℤ) (b m : ℕ) → binomialBound (pos a) xy (pos b) m ≡ pos (boundOf (natAbs xy) a b m)
+bound a xy b m =
+    ap (λ f. larger f (halfUp (pos a +ℤ pos b +ℤ larger (pos a) (pos b) -ℤ pos m))) (free a xy b m)
+    ∙ larger-pos (max (natAbs xy) (a + b - m)) (halfUp (pos a +ℤ pos b +ℤ larger (pos a) (pos b) -ℤ pos m))
+    ∙ ap (λ h. pos (max (max (natAbs xy) (a + b - m)) h)) (half-plus (pos a +ℤ pos b +ℤ larger (pos a) (pos b) -ℤ pos m) ∙ ap (λ t. (t + 1) / 2) (three a b m))
+
+pub free-by : (choice : Choice) (a : ℕ) (xy : ℤ) (b m : ℕ) → freeNumberBy choice (pos a) xy (pos b) m ≡ pos (freeOf choice (natAbs xy) a b m)
+free-by Binomial a xy b m = ap₂ smaller (bound a xy b m) (choose-smaller a b) ∙ choose-smaller (boundOf (natAbs xy) a b m) (min a b)
+free-by Smallest a xy b m = free a xy b m
 
 pub exists-plain : (a : ℕ) (xy : ℤ) (b m : ℕ) → kernelExists (pos a) xy (pos b) m ≡ leb (max (natAbs xy) (a + b - m)) (min a b)
 unfolding kernelExists
@@ -84,6 +117,19 @@ pub record Between (a c b n m : ℕ) : Type 0 where
   pub steps : a + b ≤ m + n
   pub across : n ≤ a
   pub down : n ≤ b
+
+pub between-from : (a c b m n : ℕ) → max c (a + b - m) ≤ n → n ≤ min a b → Between a c b n m
+between-from a c b m n low high = record { leans = omega arith; steps = omega arith; across = omega arith; down = omega arith }
+
+held : (low half top : ℕ) → low ≤ top → (low ≤ min (max low half) top) × (min (max low half) top ≤ top)
+held low half top h = (omega arith, omega arith)
+
+-- the free number of each choice stands between the bounds wherever some number does
+pub between-by : (choice : Choice) (a c b m : ℕ) → max c (a + b - m) ≤ min a b → Between a c b (freeOf choice c a b m) m
+between-by Binomial a c b m h =
+    let g = held (max c (a + b - m)) ((a + b + max a b - m + 1) / 2) (min a b) h in
+    between-from a c b m (freeOf Binomial c a b m) (g .0) (g .1)
+between-by Smallest a c b m h = between-from a c b m (freeOf Smallest c a b m) (le-refl (max c (a + b - m))) h
 
 pub plus-le : (z : ℤ) → plus z ≤ natAbs z
 plus-le (pos n) = omega arith

@@ -20,30 +20,33 @@ use Rattle.limits.proofs.Laws.{in-range}
 use Rattle.limits.proofs.Checks.{refused-not-accepted}
 use Rattle.kernel.specs.declared.Kernel.{Kernel}
 use Rattle.kernel.specs.Offsets.{Offset, offsets, total, moment, weighted}
+use Rattle.kernel.specs.declared.Choice.{Choice}
+use Rattle.kernel.specs.declared.Choice.the-variants.{Smallest}
 use Rattle.kernel.specs.Molecule.{unitsOf, sumOf, molecule, kernelWith, kernelOf}
+use Rattle.kernel.specs.Choice.{kernelBy}
 use Rattle.kernel.specs.Existence.{kernelExists, Weights}
 use Rattle.kernel.specs.Sound.{Sound}
-use Rattle.kernel.specs.Answer.{kernelAnswer}
+use Rattle.kernel.specs.Answer.{answerWith, kernelChecks, kernelAnswer}
 use Rattle.kernel.proofs.Signs.{plus, minus, equal, parts}
 use Rattle.kernel.proofs.Moments.{split, every, mono, constant, second, second-of}
-use Rattle.kernel.proofs.Answers.{absent, present}
-use Rattle.kernel.proofs.Plain.{free, exists-plain, none-x, none-y, plain, Between, plus-le, minus-le, weights}
+use Rattle.kernel.proofs.Answers.{absent, present, made-with}
+use Rattle.kernel.proofs.Plain.{freeOf, free-by, exists-plain, none-x, none-y, plain, Between, between-by, plus-le, minus-le, weights}
 
 -- ---- the order of signed numbers that are not negative
-is-le : {a b : ℕ} → a ≤ b → pos a ≤ℤ pos b
+pub is-le : {a b : ℕ} → a ≤ b → pos a ≤ℤ pos b
 is-le {a} {b} h = leZ-yes (le→leb a b h)
 
-le-is : {a b : ℕ} → pos a ≤ℤ pos b → a ≤ b
+pub le-is : {a b : ℕ} → pos a ≤ℤ pos b → a ≤ b
 le-is {a} {b} h = leb→le a b (h .le)
 
 -- ---- nine weights in the wide sense give the bounds
-abbrev xx-of : Offset → ℤ
+abbrev pub xx-of : Offset → ℤ
 xx-of d = d .dx *ℤ d .dx
 
 abbrev xy-of : Offset → ℤ
 xy-of d = d .dx *ℤ d .dy
 
-abbrev yy-of : Offset → ℤ
+abbrev pub yy-of : Offset → ℤ
 yy-of d = d .dy *ℤ d .dy
 
 -- a second moment whose terms are 0 or 1: the number that it gives is from 0 to M
@@ -60,7 +63,7 @@ module _ (m : ℕ) (z : ℤ) (g : Offset → ℤ) (ws : List ℕ) (some : 0 < to
       let e : weighted (λ d. minus (g d)) ws ≡ 0 = omega arith in
       ap (λ x. m * x) e ∙ mul-zero m
 
-  equation : m * weighted (λ d. plus (g d)) ws + total ws * minus z ≡ total ws * plus z
+  pub equation : m * weighted (λ d. plus (g d)) ws + total ws * minus z ≡ total ws * plus z
   equation = let e = second m z g ws h in let n = none-negative in omega arith
 
 -- it is no negative number: a negative one would make a sum with a positive part 0
@@ -173,16 +176,15 @@ module _ (a : ℕ) (xy : ℤ) (b n m : ℕ) (h : Between a (natAbs xy) b n m) wh
 
 -- ---- the kernel of the call
 -- the bounds that a passed test gives, for variances that are not negative
-pub between : (a : ℕ) (xy : ℤ) (b m : ℕ) → kernelExists (pos a) xy (pos b) m ≡ true → Between a (natAbs xy) b (max (natAbs xy) (a + b - m)) m
-between a xy b m e =
-    let l = leb-true (max (natAbs xy) (a + b - m)) (min a b) (sym (exists-plain a xy b m) ∙ e) in
-    record { leans = omega arith; steps = omega arith; across = omega arith; down = omega arith }
+pub between : (choice : Choice) (a : ℕ) (xy : ℤ) (b m : ℕ) → kernelExists (pos a) xy (pos b) m ≡ true
+    → Between a (natAbs xy) b (freeOf choice (natAbs xy) a b m) m
+between choice a xy b m e =
+    between-by choice a (natAbs xy) b m (leb-true (max (natAbs xy) (a + b - m)) (min a b) (sym (exists-plain a xy b m) ∙ e))
 
 -- the weights of a kernel with any free number between the bounds, which are those of the molecule
 pub with-weights : (a : ℕ) (xy : ℤ) (b n k : ℕ) → Between a (natAbs xy) b n (unitsOf k)
     → kernelWith (pos a) xy (pos b) (pos n) k .weights ≡ plain a xy b n (unitsOf k)
-unfolding kernelWith
-with-weights a xy b n k h = ap (map natAbs) (weights a xy b n (unitsOf k) h)
+with-weights a xy b n k h = ap (λ kernel. kernel .weights) (made-with a xy b n k h)
 
 -- no weight of the molecule is negative
 pub with-molecule : (a : ℕ) (xy : ℤ) (b n k : ℕ) → Between a (natAbs xy) b n (unitsOf k)
@@ -209,31 +211,42 @@ with-sound a xy b n k low high h =
       along = rw w;
     }
 
--- a law of kernels with any free number, brought to the kernel of the call
+-- a law of the kernel with a choice's free number, for variances that are not negative, is one of the choice's kernel ..
+pub lift-by : (P : ℤ → ℤ → ℤ → ℕ → Kernel → Type 0) (k : ℕ) (choice : Choice)
+    → ((a : ℕ) (xy : ℤ) (b : ℕ) → Between a (natAbs xy) b (freeOf choice (natAbs xy) a b (unitsOf k)) (unitsOf k)
+    → P (pos a) xy (pos b) k (kernelWith (pos a) xy (pos b) (pos (freeOf choice (natAbs xy) a b (unitsOf k))) k))
+    → (xx xy yy : ℤ) → kernelExists xx xy yy (unitsOf k) ≡ true → P xx xy yy k (kernelBy choice xx xy yy k)
+lift-by P k choice law (pos a) xy (pos b) e =
+    subst (λ f. P (pos a) xy (pos b) k (kernelWith (pos a) xy (pos b) f k)) (sym (free-by choice a xy b (unitsOf k)))
+    (law a xy b (between choice a xy b (unitsOf k) e))
+lift-by P k choice law (pos a) xy (negsuc b) e = absurd (true≢false (sym e ∙ none-y b (pos a) xy (unitsOf k)))
+lift-by P k choice law (negsuc a) xy yy e = absurd (true≢false (sym e ∙ none-x a xy yy (unitsOf k)))
+
+-- .. and so is a law of kernels with any free number between the bounds
 lift : (P : ℤ → ℤ → ℤ → ℕ → Kernel → Type 0) (k : ℕ)
     → ((a : ℕ) (xy : ℤ) (b n : ℕ) → Between a (natAbs xy) b n (unitsOf k) → P (pos a) xy (pos b) k (kernelWith (pos a) xy (pos b) (pos n) k))
-    → (xx xy yy : ℤ) → kernelExists xx xy yy (unitsOf k) ≡ true → P xx xy yy k (kernelOf xx xy yy k)
-lift P k law (pos a) xy (pos b) e =
-    subst (λ f. P (pos a) xy (pos b) k (kernelWith (pos a) xy (pos b) f k)) (sym (free a xy b (unitsOf k)))
-    (law a xy b (max (natAbs xy) (a + b - unitsOf k)) (between a xy b (unitsOf k) e))
-lift P k law (pos a) xy (negsuc b) e = absurd (true≢false (sym e ∙ none-y b (pos a) xy (unitsOf k)))
-lift P k law (negsuc a) xy (pos b) e = absurd (true≢false (sym e ∙ none-x a xy (pos b) (unitsOf k)))
-lift P k law (negsuc a) xy (negsuc b) e = absurd (true≢false (sym e ∙ none-x a xy (negsuc b) (unitsOf k)))
+    → (choice : Choice) (xx xy yy : ℤ) → kernelExists xx xy yy (unitsOf k) ≡ true → P xx xy yy k (kernelBy choice xx xy yy k)
+lift P k law choice = lift-by P k choice (λ a xy b. law a xy b (freeOf choice (natAbs xy) a b (unitsOf k)))
 
 -- every kernel that the call answers is symmetric, with the sum that a step divides by
-pub sound : (xx xy yy : ℤ) (k : ℕ) → stepsInRange k ≡ true → kernelExists xx xy yy (unitsOf k) ≡ true → Sound (kernelOf xx xy yy k) k
-sound xx xy yy k s e =
+pub sound-by : (choice : Choice) (xx xy yy : ℤ) (k : ℕ) → stepsInRange k ≡ true → kernelExists xx xy yy (unitsOf k) ≡ true
+    → Sound (kernelBy choice xx xy yy k) k
+sound-by choice xx xy yy k s e =
     let r = in-range 1 mostSteps k s in
-    lift (λ xx xy yy k kernel. Sound kernel k) k (λ a xy b n h. with-sound a xy b n k (r .0) (r .1) h) xx xy yy e
+    lift (λ xx xy yy k kernel. Sound kernel k) k (λ a xy b n h. with-sound a xy b n k (r .0) (r .1) h) choice xx xy yy e
+
+-- the service's kernel is one of them: document 01's, by the smallest free number
+pub sound : (xx xy yy : ℤ) (k : ℕ) → stepsInRange k ≡ true → kernelExists xx xy yy (unitsOf k) ≡ true → Sound (kernelOf xx xy yy k) k
+sound = sound-by Smallest
 
 -- its weights are nine weights in the wide sense: mean zero and exactly the requested second moments
-pub exact : (xx xy yy : ℤ) (k : ℕ) → stepsInRange k ≡ true → kernelExists xx xy yy (unitsOf k) ≡ true
-    → (w : Weights xx xy yy (unitsOf k)) × (w .weights ≡ kernelOf xx xy yy k .weights)
+pub exact : (choice : Choice) (xx xy yy : ℤ) (k : ℕ) → stepsInRange k ≡ true → kernelExists xx xy yy (unitsOf k) ≡ true
+    → (w : Weights xx xy yy (unitsOf k)) × (w .weights ≡ kernelBy choice xx xy yy k .weights)
 unfolding given
-exact xx xy yy k s e =
+exact choice xx xy yy k s e =
     let r = in-range 1 mostSteps k s in
     lift (λ xx xy yy k kernel. (w : Weights xx xy yy (unitsOf k)) × (w .weights ≡ kernel .weights)) k
-    (λ a xy b n h. (given a xy b n (unitsOf k) h (omega arith), sym (with-weights a xy b n k h))) xx xy yy e
+    (λ a xy b n h. (given a xy b n (unitsOf k) h (omega arith), sym (with-weights a xy b n k h))) choice xx xy yy e
 
 -- the test fails exactly where no nine weights exist
 pub absent-exactly : (xx xy yy : ℤ) (k : ℕ) → stepsInRange k ≡ true
@@ -244,16 +257,20 @@ absent-exactly xx xy yy k s = (
 )
   where
     go : (t : Bool) → kernelExists xx xy yy (unitsOf k) ≡ t → (Weights xx xy yy (unitsOf k) → ⊥) → t ≡ false
-    go true e none = absurd (none (exact xx xy yy k s e .0))
+    go true e none = absurd (none (exact Smallest xx xy yy k s e .0))
     go false e none = refl
 
--- and so refusal 11 is answered exactly there
-pub refused-exactly : (xx xy yy : ℤ) (k : ℕ) → stepsInRange k ≡ true
-    → (kernelAnswer xx xy yy k .outcome ≡ Refused NoKernel) ↔ (Weights xx xy yy (unitsOf k) → ⊥)
-refused-exactly xx xy yy k s = (only, λ none. ap (λ a. a .outcome) (absent xx xy yy k s (absent-exactly xx xy yy k s .1 none)))
+-- and so refusal 11 is answered exactly there, for each choice
+pub refused-exactly : (choice : Choice) (xx xy yy : ℤ) (k : ℕ) → stepsInRange k ≡ true
+    → (kernelAnswer choice xx xy yy k .outcome ≡ Refused NoKernel) ↔ (Weights xx xy yy (unitsOf k) → ⊥)
+refused-exactly choice xx xy yy k s = (only, λ none. ap (λ a. a .outcome) (absent choice xx xy yy k s (absent-exactly xx xy yy k s .1 none)))
   where
-    only : kernelAnswer xx xy yy k .outcome ≡ Refused NoKernel → Weights xx xy yy (unitsOf k) → ⊥
-    only r w = refused-not-accepted (sym r ∙ ap (λ a. a .outcome) (present xx xy yy k s (needed xx xy yy (unitsOf k) w)))
+    only : kernelAnswer choice xx xy yy k .outcome ≡ Refused NoKernel → Weights xx xy yy (unitsOf k) → ⊥
+    only r w = refused-not-accepted (sym r ∙ ap (λ a. a .outcome) (present choice xx xy yy k s (needed xx xy yy (unitsOf k) w)))
+
+-- "A caller who needs the earlier f names the choice "smallest"": the call then answers what it answered by document 01
+pub as-before : (xx xy yy : ℤ) (k : ℕ) → kernelAnswer Smallest xx xy yy k ≡ answerWith (kernelChecks xx xy yy k) (kernelOf xx xy yy k)
+as-before xx xy yy k = refl
 
 -- "|xy| must be at most the smaller variance, and the steps must be enough", of variances without their signs
 pub unsigned-conditions : (a : ℕ) (xy : ℤ) (b m : ℕ)

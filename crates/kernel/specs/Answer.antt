@@ -1,4 +1,4 @@
--- What the kernel call answers for every covariance and step count. Definitions only.
+-- What the kernel call answers for every choice, covariance and step count. Definitions only.
 use Prim.Native.Nat.{ℕ}
 use mathlib.Core.List.{[], _∷_}
 use lib.ListN.{replicate}
@@ -12,7 +12,9 @@ use Rattle.limits.specs.declared.ErrorCode.the-variants.{StepsOutOfRange, NoKer
 use Rattle.kernel.specs.declared.Kernel.{Kernel}
 use Rattle.kernel.specs.declared.Magnitude.{Magnitude}
 use Rattle.kernel.specs.declared.KernelAnswer.{KernelAnswer}
-use Rattle.kernel.specs.Molecule.{unitsOf, kernelOf}
+use Rattle.kernel.specs.declared.Choice.{Choice}
+use Rattle.kernel.specs.Molecule.{unitsOf}
+use Rattle.kernel.specs.Choice.{kernelBy}
 use Rattle.kernel.specs.Existence.{kernelExists}
 
 -- what stands beside a refusal: nine weights of 0
@@ -28,8 +30,9 @@ abbrev pub kernelChecks : ℤ → ℤ → ℤ → ℕ → Outcome
 kernelChecks xx xy yy k =
     firstRefusal ((stepsInRange k otherwise StepsOutOfRange) ∷ (kernelExists xx xy yy (unitsOf k) otherwise NoKernel) ∷ [])
 
-abbrev pub kernelAnswer : ℤ → ℤ → ℤ → ℕ → KernelAnswer
-kernelAnswer xx xy yy k = answerWith (kernelChecks xx xy yy k) (kernelOf xx xy yy k)
+-- a kernel exists by each choice or by none ("Kernels exist for the same shapes as before"), so the checks have no choice
+abbrev pub kernelAnswer : Choice → ℤ → ℤ → ℤ → ℕ → KernelAnswer
+kernelAnswer choice xx xy yy k = answerWith (kernelChecks xx xy yy k) (kernelBy choice xx xy yy k)
 
 -- a signed number taken apart, as the code works with it
 abbrev pub magnitudeOf : ℤ → Magnitude

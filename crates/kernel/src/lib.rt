@@ -1,11 +1,14 @@
-// The kernel of a covariance and a step count: nine weights by the molecule of Lindeberg's paper (equations 22 to 27), or
-// refusal 5 or 11. The signs are taken off once, at the edge; the rest is in unsigned numbers, and no sum can wrap.
+// The kernel of a covariance and a step count: nine weights by the molecule of Lindeberg's paper (equations 22 to 27), with the
+// free number of a choice, or refusal 5 or 11. The signs are taken off once, at the edge; the rest is in unsigned numbers, and
+// no sum can wrap.
 ghost use mathlib.Core.Path.{_≡_};
 ghost use mathlib.Core.List.{_∷_, []};
-ghost use Prim.Native.Nat.{_+_, _-_, _*_, _<_, _≤_, max};
+ghost use Prim.Native.Nat.{ℕ, _+_, _-_, _*_, _/_, _≤_, max, min};
 ghost use mathlib.Core.Bool.{true};
-ghost use lib.IntN.{ℤ};
+ghost use lib.IntN.{ℤ, pos, natAbs};
 ghost use Rattle.limits.specs.Limits.{stepsInRange};
+ghost use Rattle.kernel.specs.Molecule.{unitsOf, kernelWith};
+ghost use Rattle.kernel.specs.Choice.{freeNumberBy, choiceOf};
 ghost use Rattle.kernel.specs.Answer.{noKernel, kernelAnswer, magnitudeOf};
 use limits::ErrorCode;
 use limits::Outcome;
@@ -14,6 +17,13 @@ use limits::Outcome;
 pub const UNITS_PER_SQUARE_PIXEL: u64 = 4096;
 
 pub const WEIGHTS: usize = 9;
+
+// How the free number is chosen (document 02, S-2). Binomial, the rule that holds where a caller names none, asks for the paper's
+// binomial kernel's ratio: its centre weighs twice as much as a side (equations 81 and 85). Smallest is document 01's.
+pub enum Choice {
+    Binomial,
+    Smallest,
+}
 
 // Nine weights by row and then by column, and their sum.
 pub struct Kernel {
@@ -70,17 +80,52 @@ fn made(kernel: Kernel) -> KernelAnswer
     }
 }
 
-// The larger of |xy| and xx + yy - M, where the second is not below 0.
-fn free_number(xx: u64, xy: u64, yy: u64, m: u64) -> u64
+fn larger(a: u64, b: u64) -> u64
+    ensures { λ r. ⌜ r ≡ max a b ⌝ }
+{
+    if a < b { b } else { a }
+}
+
+fn smaller(a: u64, b: u64) -> u64
+    ensures { λ r. ⌜ r ≡ min a b ⌝ }
+{
+    if a < b { a } else { b }
+}
+
+// By how much a number is above another: 0 where it is not.
+fn above(a: u64, b: u64) -> u64
+    ensures { λ r. ⌜ r ≡ a - b ⌝ }
+{
+    if a < b { 0 } else { a - b }
+}
+
+// The larger of |xy| and xx + yy - M: the smallest free number that leaves no weight negative.
+fn smallest_free_number(xx: u64, xy: u64, yy: u64, m: u64) -> u64
     requires { ⌜ (xx ≤ 2147483648) × (yy ≤ 2147483648) ⌝ }
     ensures { λ r. ⌜ r ≡ max xy (xx + yy - m) ⌝ }
 {
-    let both = xx + yy;
-    if both <= m {
-        return xy;
+    larger(xy, above(xx + yy, m))
+}
+
+// At least half of xx + yy + max(xx, yy) - M, upward: from there on the centre weighs at least twice as much as either side. At
+// most the smaller variance, since a side would be negative beyond it.
+fn binomial_free_number(smallest: u64, xx: u64, yy: u64, m: u64) -> u64
+    requires { ⌜ (xx ≤ 2147483648) × (yy ≤ 2147483648) ⌝ }
+    ensures { λ r. ⌜ r ≡ min (max smallest ((xx + yy + max xx yy - m + 1) / 2)) (min xx yy) ⌝ }
+{
+    let half = (above(xx + yy + larger(xx, yy), m) + 1) / 2;
+    smaller(larger(smallest, half), smaller(xx, yy))
+}
+
+// The free number of a choice, from the smallest one.
+fn free_number_by(choice: Choice, smallest: u64, xx: u64, yy: u64, m: u64) -> u64
+    requires { ⌜ (xx ≤ 2147483648) × (yy ≤ 2147483648) ⌝ }
+    ensures { λ r. ⌜ ((z : ℤ) → smallest ≡ max (natAbs z) (xx + yy - m) → pos r ≡ freeNumberBy choice (pos xx) z (pos yy) m) ⌝ }
+{
+    match choice {
+        Choice::Binomial => binomial_free_number(smallest, xx, yy, m),
+        Choice::Smallest => smallest,
     }
-    let over = both - m;
-    if xy < over { over } else { xy }
 }
 
 // A kernel that is symmetric about its centre, from its five weights.
@@ -103,10 +148,32 @@ fn symmetric(diagonal: u64, down: u64, across: u64, along: u64, centre: u64, sum
     }
 }
 
+// The kernel with a free number that leaves no weight negative, for any M.
+fn kernel_with(xx: u64, xy: Magnitude, yy: u64, f: u64, m: u64) -> Kernel
+    requires { ⌜ (xx ≤ 2147483648) × (yy ≤ 2147483648) × (m ≤ 2147483648) ⌝ }
+    requires { ⌜ (xy .size ≤ f) × (xx + yy ≤ m + f) × (f ≤ xx) × (f ≤ yy) ⌝ }
+    ensures { λ r. ⌜ ((z : ℤ) (k : ℕ) → xy ≡ magnitudeOf z → m ≡ unitsOf k → r ≡ kernelWith (pos xx) z (pos yy) (pos f) k) ⌝ }
+{
+    let c = xy.size;
+    let along = 2 * (xx - f);
+    let down = 2 * (yy - f);
+    let centre = 4 * (m + f - (xx + yy));
+    if xy.negative {
+        return symmetric(f - c, down, f + c, along, centre, 4 * m);
+    }
+    symmetric(f + c, down, f - c, along, centre, 4 * m)
+}
+
 // The kernel of a covariance whose signs are off, for a step count in range.
-fn kernel_from(xx: Magnitude, xy: Magnitude, yy: Magnitude, steps: u32) -> KernelAnswer
+fn kernel_from(
+    choice: Choice,
+    xx: Magnitude,
+    xy: Magnitude,
+    yy: Magnitude,
+    steps: u32,
+) -> KernelAnswer
     requires { ⌜ (xx .size ≤ 2147483648) × (xy .size ≤ 2147483648) × (yy .size ≤ 2147483648) × (stepsInRange steps ≡ true) ⌝ }
-    ensures { λ r. ⌜ ((x z y : ℤ) → xx ≡ magnitudeOf x → xy ≡ magnitudeOf z → yy ≡ magnitudeOf y → r ≡ kernelAnswer x z y steps) ⌝ }
+    ensures { λ r. ⌜ ((x z y : ℤ) → xx ≡ magnitudeOf x → xy ≡ magnitudeOf z → yy ≡ magnitudeOf y → r ≡ kernelAnswer choice x z y steps) ⌝ }
 {
     if xx.negative {
         return refused(ErrorCode::NoKernel);
@@ -116,29 +183,25 @@ fn kernel_from(xx: Magnitude, xy: Magnitude, yy: Magnitude, steps: u32) -> Kerne
     }
     let a = xx.size;
     let b = yy.size;
-    let c = xy.size;
     let m = UNITS_PER_SQUARE_PIXEL * (steps as u64);
-    let f = free_number(a, c, b, m);
-    if a < f {
+    let smallest = smallest_free_number(a, xy.size, b, m);
+    if a < smallest {
         return refused(ErrorCode::NoKernel);
     }
-    if b < f {
+    if b < smallest {
         return refused(ErrorCode::NoKernel);
     }
-    let along = 2 * (a - f);
-    let down = 2 * (b - f);
-    let centre = 4 * (m + f - (a + b));
-    if xy.negative {
-        return made(symmetric(f - c, down, f + c, along, centre, 4 * m));
-    }
-    made(symmetric(f + c, down, f - c, along, centre, 4 * m))
+    let f = free_number_by(choice, smallest, a, b, m);
+    made(kernel_with(a, xy, b, f, m))
 }
 
-pub fn kernel_of(xx: i32, xy: i32, yy: i32, steps: u32) -> KernelAnswer
-    ensures { λ r. ⌜ r ≡ kernelAnswer xx xy yy steps ⌝ }
+// The kernel of a covariance and a step count, by a choice, or refusal 5 or 11.
+pub fn kernel_by(choice: Choice, xx: i32, xy: i32, yy: i32, steps: u32) -> KernelAnswer
+    ensures { λ r. ⌜ r ≡ kernelAnswer choice xx xy yy steps ⌝ }
 {
     if limits::steps_in_range(steps) {
         return kernel_from(
+            choice,
             size_and_sign(xx),
             size_and_sign(xy),
             size_and_sign(yy),
@@ -146,4 +209,14 @@ pub fn kernel_of(xx: i32, xy: i32, yy: i32, steps: u32) -> KernelAnswer
         );
     }
     refused(ErrorCode::StepsOutOfRange)
+}
+
+// The choice that a number names: 1 is smallest, and every other number the binomial one, so that none is refused.
+pub fn choice_of(number: u32) -> Choice
+    ensures { λ r. ⌜ r ≡ choiceOf number ⌝ }
+{
+    if number == 1 {
+        return Choice::Smallest;
+    }
+    Choice::Binomial
 }

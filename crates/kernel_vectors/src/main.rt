@@ -1,5 +1,7 @@
-// A test program: the kernels of 4,000 covariances, one on a line, as `reference` prints them for the same numbers. Both make
-// the numbers by the same recurrence; what the lines must be stands in the file stdout, which the independent program wrote.
+// A test program: the kernels of 4,000 covariances, each on a line by the smallest free number and on a line by the rule of S-2, as
+// `reference` prints them for the same numbers. Both make the numbers by the same recurrence; what the lines must be stands in the
+// file stdout, which the independent program wrote.
+use kernel::Choice;
 use libc::STDOUT_FILENO;
 use limits::Outcome;
 
@@ -31,9 +33,9 @@ fn print_weights(weights: [u64; 9]) {
     }
 }
 
-// The line of one covariance and step count.
-fn print_kernel(xx: i32, xy: i32, yy: i32, steps: u32) {
-    let answer = kernel::kernel_of(xx, xy, yy, steps);
+// The line of one covariance and step count by a choice.
+fn print_kernel(choice: Choice, xx: i32, xy: i32, yy: i32, steps: u32) {
+    let answer = kernel::kernel_by(choice, xx, xy, yy, steps);
     let made = answer.kernel;
     let outcome = answer.outcome;
     let weights = made.weights;
@@ -54,12 +56,11 @@ fn main() {
         let d = next(c);
         let steps = (d % 67) as u32;
         let units = 4096 * (d % 67);
-        print_kernel(
-            around(a, units),
-            around(b, units / 2),
-            around(c, units),
-            steps,
-        );
+        let xx = around(a, units);
+        let xy = around(b, units / 2);
+        let yy = around(c, units);
+        print_kernel(Choice::Smallest, xx, xy, yy, steps);
+        print_kernel(Choice::Binomial, xx, xy, yy, steps);
         x = d;
         i += 1;
     }

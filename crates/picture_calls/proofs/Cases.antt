@@ -5,6 +5,7 @@ use Prim.Native.Nat.{ℕ}
 use lib.Ieee.{ofInt, add, sub, mul, le}
 use Rattle.limits.specs.Errors.{valueOr}
 use Rattle.kernel.specs.Molecule.{kernelWith}
+use Rattle.kernel.specs.Choice.{choiceOf}
 use Rattle.kernel.specs.Existence.{kernelExists}
 use Rattle.image.specs.Image as I
 use Rattle.image.specs.Reading.{readingOf, readingNumber, readingValues}
@@ -19,14 +20,14 @@ use Rattle.picture_calls.proofs.Table.{Call, covariance, kernel, differ
 -- the code that a call returns, and what it leaves in what it was lent
 abbrev pub codeOf : Call → ℕ
 codeOf (covariance shape before) = covarianceCode shape before
-codeOf (kernel shape k before) = kernelCode shape k before
+codeOf (kernel choice shape k before) = kernelCode shape k before
 codeOf (difference which w h pixels before) = differenceCode w h pixels before
 codeOf (directional d w h pixels before) = directionalCode d w h pixels before
 codeOf (pixel w h pixels x y before) = readingNumber (readingOf w h pixels x y)
 
 abbrev pub leftBy : Call → Lent
 leftBy (covariance shape before) = entries (covarianceAfter shape before)
-leftBy (kernel shape k before) = words (kernelAfter shape k before)
+leftBy (kernel choice shape k before) = words (kernelAfter (choiceOf choice) shape k before)
 leftBy (difference which w h pixels before) = entries (differenceAfter which w h pixels before)
 leftBy (directional d w h pixels before) = floats (directionalAfter d w h pixels before)
 leftBy (pixel w h pixels x y before) = number (valueOr (readingValues (readingOf w h pixels x y)) before)

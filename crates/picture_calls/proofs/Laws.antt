@@ -18,6 +18,7 @@ use Rattle.limits.specs.declared.ErrorCode.{ErrorCode}
 use Rattle.limits.specs.declared.ErrorCode.the-variants.{StepsOutOfRange, WrongLength, NoKernel}
 use Rattle.limits.specs.declared.Outcome.{Outcome}
 use Rattle.limits.specs.declared.Outcome.the-variants.{Accepted, Refused}
+use Rattle.kernel.specs.declared.Choice.{Choice}
 use Rattle.kernel.specs.declared.Kernel.{Kernel}
 use Rattle.kernel.specs.Molecule.{unitsOf}
 use Rattle.kernel.specs.Existence.{kernelExists}
@@ -25,7 +26,7 @@ use Rattle.kernel.specs.Answer.{answerWith}
 use Rattle.covariance.specs.declared.Covariance.{Covariance}
 use Rattle.covariance.specs.declared.Shape.{Shape}
 use Rattle.covariance.specs.declared.Shape.the-variants.{Matrix}
-use Rattle.covariance.specs.Shapes.{variancesFine, directionFine, covarianceXX, covarianceXY, covarianceYY, kernelOfShape}
+use Rattle.covariance.specs.Shapes.{variancesFine, directionFine, covarianceXX, covarianceXY, covarianceYY, kernelOfShapeBy}
 use Rattle.covariance.specs.Answer.{covarianceAnswer, shapeKernelChecks, shapeKernelAnswer}
 use Rattle.covariance.proofs.Answers.{stopped}
 use Rattle.picture_calls.specs.Pictures.{entryCount, kernelCount, kernelWords, covarianceOutcome, kernelOutcome, kernelCode, kernelAfter}
@@ -70,12 +71,12 @@ module _ (shape : Shape) (k : ℕ) (words : List ℕ) (variances : variancesFine
   length-fine : firstRefusal (shapeKernelChecks shape k) ≡ kernelOutcome shape k (length words)
   length-fine = rw (variances, direction, steps, eq-eqb (length words) kernelCount ten)
 
-  pub kernel-code : outcomeNumber (shapeKernelAnswer shape k .outcome) ≡ kernelCode shape k words
+  pub kernel-code : (choice : Choice) → outcomeNumber (shapeKernelAnswer choice shape k .outcome) ≡ kernelCode shape k words
   unfolding kernelCode
-  kernel-code = ap outcomeNumber (same-outcome (firstRefusal (shapeKernelChecks shape k)) (kernelOfShape shape k) ∙ length-fine)
+  kernel-code choice = ap outcomeNumber (same-outcome (firstRefusal (shapeKernelChecks shape k)) (kernelOfShapeBy choice shape k) ∙ length-fine)
 
-  pub kernel-after : heldAfter (shapeKernelAnswer shape k .outcome) (kernelWords (shapeKernelAnswer shape k .kernel)) words ≡ kernelAfter shape k words
+  pub kernel-after : (choice : Choice) → heldAfter (shapeKernelAnswer choice shape k .outcome) (kernelWords (shapeKernelAnswer choice shape k .kernel)) words ≡ kernelAfter choice shape k words
   unfolding kernelAfter
-  kernel-after =
-      same-words (firstRefusal (shapeKernelChecks shape k)) (kernelOfShape shape k) words
-      ∙ ap (λ (o : Outcome). heldAfter o (kernelWords (kernelOfShape shape k)) words) length-fine
+  kernel-after choice =
+      same-words (firstRefusal (shapeKernelChecks shape k)) (kernelOfShapeBy choice shape k) words
+      ∙ ap (λ (o : Outcome). heldAfter o (kernelWords (kernelOfShapeBy choice shape k)) words) length-fine

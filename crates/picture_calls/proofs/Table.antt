@@ -15,10 +15,17 @@ use Rattle.differences.specs.declared.Difference.the-variants.{FirstX, FirstY}
 -- a call, with what is lent to it before
 pub data Call : Type 0 where
   covariance : Shape → List ℤ → Call
-  kernel : Shape → ℕ → List ℕ → Call
+  kernel : ℕ → Shape → ℕ → List ℕ → Call
   difference : Difference → ℕ → ℕ → List ℕ → List ℤ → Call
   directional : Direction → ℕ → ℕ → List ℕ → List Float → Call
   pixel : ℕ → ℕ → List ℕ → ℤ → ℤ → ℕ → Call
+
+-- the numbers that name a choice
+abbrev pub byRule : ℕ
+byRule = 0
+
+abbrev pub smallest : ℕ
+smallest = 1
 
 -- what was lent, after the call: entries, words, floats, or a number
 pub data Lent : Type 0 where
@@ -86,27 +93,34 @@ table =
     ∷ row (covariance (Round (fin true 1 (pos 0))) three) 3 (entries three)
     ∷ row (covariance (Oval one one slanted) four) 9 (entries four)
     ∷ row (covariance (Round one) (pos 8 ∷ pos 9 ∷ [])) 9 (entries (pos 8 ∷ pos 9 ∷ []))
-    -- the kernel: its sum 4 × M, and then the weights by row and then by column. k 1: M = 4096, f = 3000 + 2500 − 4096 = 1404,
+    -- the kernel by the smallest free number: its sum 4 × M, and then the weights by row and then by column. k 1: M = 4096, f = 3000 + 2500 − 4096 = 1404,
     -- f + xy = 2104, f − xy = 704, 2 × (xx − f) = 3192, 2 × (yy − f) = 2192, the centre 0
-    ∷ row (kernel (Matrix (pos 3000) (pos 700) (pos 2500)) 1 ten) 0
+    ∷ row (kernel smallest (Matrix (pos 3000) (pos 700) (pos 2500)) 1 ten) 0
     (words (16384 ∷ 2104 ∷ 2192 ∷ 704 ∷ 3192 ∷ 0 ∷ 3192 ∷ 704 ∷ 2192 ∷ 2104 ∷ []))
     -- k 2: M = 8192, f = |xy| = 1000, f + xy = 0, f − xy = 2000, 4000, 3000, the centre 4 × (8192 − 5500 + 1000)
-    ∷ row (kernel (Matrix (pos 3000) (minus 1000) (pos 2500)) 2 ten) 0
+    ∷ row (kernel smallest (Matrix (pos 3000) (minus 1000) (pos 2500)) 2 ten) 0
     (words (32768 ∷ 0 ∷ 3000 ∷ 2000 ∷ 4000 ∷ 14768 ∷ 4000 ∷ 2000 ∷ 3000 ∷ 0 ∷ []))
     -- case e
-    ∷ row (kernel (Matrix (pos 4097) (pos 0) (pos 4096)) 2 ten) 0
+    ∷ row (kernel smallest (Matrix (pos 4097) (pos 0) (pos 4096)) 2 ten) 0
     (words (32768 ∷ 1 ∷ 8190 ∷ 1 ∷ 8192 ∷ 0 ∷ 8192 ∷ 1 ∷ 8190 ∷ 1 ∷ []))
     -- the oval above, k 3: M = 12288, f = |2000|, so 4000, 0, 2 × 3700, 2 × 4600 and 4 × (12288 − 12300 + 2000)
-    ∷ row (kernel (Oval two one slanted) 3 ten) 0
+    ∷ row (kernel smallest (Oval two one slanted) 3 ten) 0
     (words (49152 ∷ 4000 ∷ 9200 ∷ 0 ∷ 7400 ∷ 7952 ∷ 7400 ∷ 0 ∷ 9200 ∷ 4000 ∷ []))
-    -- 3 before 4, 4 before 5, 5 before 9, 9 before 11 (case d), then 11
-    ∷ row (kernel (Oval nan one (towards two two)) 0 nine) 3 (words nine)
-    ∷ row (kernel (Oval one one (towards two two)) 0 nine) 4 (words nine)
-    ∷ row (kernel (Matrix (pos 4097) (pos 0) (pos 4096)) 0 nine) 5 (words nine)
-    ∷ row (kernel (Matrix (pos 4097) (pos 0) (pos 4096)) 65 ten) 5 (words ten)
-    ∷ row (kernel (Matrix (pos 4097) (pos 0) (pos 4096)) 1 nine) 9 (words nine)
-    ∷ row (kernel (Matrix (pos 4097) (pos 0) (pos 4096)) 2 (0 ∷ ten)) 9 (words (0 ∷ ten))
-    ∷ row (kernel (Matrix (pos 4097) (pos 0) (pos 4096)) 1 ten) 11 (words ten)
+    -- by the rule of S-2: of the first, f = half of 3000 + 2500 + 3000 − 4096 = 2202, f + xy = 2902, f − xy = 1502, 1596, 596 and
+    -- 4 × (4096 − 5500 + 2202); and case e. Every number but 1 names this rule.
+    ∷ row (kernel byRule (Matrix (pos 3000) (pos 700) (pos 2500)) 1 ten) 0
+    (words (16384 ∷ 2902 ∷ 596 ∷ 1502 ∷ 1596 ∷ 3192 ∷ 1596 ∷ 1502 ∷ 596 ∷ 2902 ∷ []))
+    ∷ row (kernel 4294967295 (Matrix (pos 4097) (pos 0) (pos 4096)) 2 ten) 0
+    (words (32768 ∷ 2049 ∷ 4094 ∷ 2049 ∷ 4096 ∷ 8192 ∷ 4096 ∷ 2049 ∷ 4094 ∷ 2049 ∷ []))
+    -- 3 before 4, 4 before 5, 5 before 9, 9 before 11 (case d), then 11, by either
+    ∷ row (kernel byRule (Oval nan one (towards two two)) 0 nine) 3 (words nine)
+    ∷ row (kernel smallest (Oval one one (towards two two)) 0 nine) 4 (words nine)
+    ∷ row (kernel byRule (Matrix (pos 4097) (pos 0) (pos 4096)) 0 nine) 5 (words nine)
+    ∷ row (kernel smallest (Matrix (pos 4097) (pos 0) (pos 4096)) 65 ten) 5 (words ten)
+    ∷ row (kernel byRule (Matrix (pos 4097) (pos 0) (pos 4096)) 1 nine) 9 (words nine)
+    ∷ row (kernel smallest (Matrix (pos 4097) (pos 0) (pos 4096)) 2 (0 ∷ ten)) 9 (words (0 ∷ ten))
+    ∷ row (kernel smallest (Matrix (pos 4097) (pos 0) (pos 4096)) 1 ten) 11 (words ten)
+    ∷ row (kernel byRule (Matrix (pos 4097) (pos 0) (pos 4096)) 1 ten) 11 (words ten)
     -- L(x+1) − L(x−1): 5 − 1, 2 − 1, 2 − 5; 9 − 20, 40 − 20, 40 − 9
     ∷ row (difference FirstX 3 2 six (pos 0 ∷ pos 0 ∷ four)) 0 (entries (pos 4 ∷ pos 1 ∷ minus 3 ∷ minus 11 ∷ pos 20 ∷ pos 31 ∷ []))
     -- L(y+1) − L(y−1): 20 − 1, 9 − 5, 40 − 2, in both rows

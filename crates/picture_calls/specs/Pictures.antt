@@ -10,10 +10,11 @@ use Rattle.limits.specs.Limits.{stepsInRange}
 use Rattle.limits.specs.Errors.{_otherwise_, firstRefusal, outcomeNumber, heldAfter}
 use Rattle.limits.specs.declared.Outcome.{Outcome}
 use Rattle.limits.specs.declared.ErrorCode.the-variants.{VarianceOutOfRange, NotADirection, StepsOutOfRange, WrongLength, NoKernel}
+use Rattle.kernel.specs.declared.Choice.{Choice}
 use Rattle.kernel.specs.declared.Kernel.{Kernel}
 use Rattle.covariance.specs.declared.Direction.{Direction}
 use Rattle.covariance.specs.declared.Shape.{Shape}
-use Rattle.covariance.specs.Shapes.{variancesFine, directionFine, covarianceXX, covarianceXY, covarianceYY, shapeHasKernel, kernelOfShape}
+use Rattle.covariance.specs.Shapes.{variancesFine, directionFine, covarianceXX, covarianceXY, covarianceYY, shapeHasKernel, kernelOfShapeBy}
 use Rattle.differences.specs.declared.Difference.{Difference}
 use Rattle.differences.specs.Stencils.{differencesOf}
 use Rattle.differences.specs.Directional.{directionalOf}
@@ -63,8 +64,8 @@ kernelOutcome shape k n =
 unfoldable pub kernelCode : Shape → ℕ → List ℕ → ℕ
 kernelCode shape k words = outcomeNumber (kernelOutcome shape k (length words))
 
-unfoldable pub kernelAfter : Shape → ℕ → List ℕ → List ℕ
-kernelAfter shape k words = heldAfter (kernelOutcome shape k (length words)) (kernelWords (kernelOfShape shape k)) words
+unfoldable pub kernelAfter : Choice → Shape → ℕ → List ℕ → List ℕ
+kernelAfter choice shape k words = heldAfter (kernelOutcome shape k (length words)) (kernelWords (kernelOfShapeBy choice shape k)) words
 
 -- ---- the differences of a picture (`runOf` of crates/smoothing says by itself what a run leaves)
 unfoldable pub differenceCode : ℕ → ℕ → List ℕ → List ℤ → ℕ

@@ -4,6 +4,7 @@ ghost use mathlib.Core.Path.{_≡_};
 ghost use lib.ListN.{length};
 ghost use Rattle.limits.specs.Errors.{outcomeNumber, valueOr, heldAfter};
 ghost use Rattle.image.specs.Reading.{readingOf, readingNumber, readingValues};
+ghost use Rattle.kernel.specs.Choice.{choiceOf};
 ghost use Rattle.smoothing.specs.Runs.{runOf};
 ghost use Rattle.picture_calls.specs.Pictures.{kernelCount, kernelWords, covarianceCode, covarianceAfter, kernelCode, kernelAfter, differenceCode, differenceAfter, directionalCode, directionalAfter};
 use covariance::Covariance;
@@ -71,10 +72,11 @@ fn write_answer(answer: KernelAnswer, words: &mut [u64]) -> u32
     }
 }
 
-// The kernel of a shape and a step count. Refusals 3, 4, 5, then 9 where there are not 10 words, then 11.
-pub fn write_kernel(shape: Shape, steps: u32, words: &mut [u64]) -> u32
+// The kernel of a shape and a step count, by the choice that a number names. Refusals 3, 4, 5, then 9 where there are not 10
+// words, then 11.
+pub fn write_kernel(choice: u32, shape: Shape, steps: u32, words: &mut [u64]) -> u32
     ensures { λ r. ⌜ r ≡ kernelCode shape steps (now (words .entry)) ⌝ }
-    ensures { λ _. ⌜ now (words .exit) ≡ kernelAfter shape steps (now (words .entry)) ⌝ }
+    ensures { λ _. ⌜ now (words .exit) ≡ kernelAfter (choiceOf choice) shape steps (now (words .entry)) ⌝ }
 {
     match covariance::covariance_of(shape) {
         Covariance::Entries(_, _, _) => {
@@ -84,14 +86,17 @@ pub fn write_kernel(shape: Shape, steps: u32, words: &mut [u64]) -> u32
             if words.len() != KERNEL_WORDS {
                 return limits::error_number(ErrorCode::WrongLength);
             }
-            write_answer(covariance::kernel_of_shape(shape, steps), words)
+            let named = kernel::choice_of(choice);
+            write_answer(covariance::kernel_of_shape_by(named, shape, steps), words)
         }
         Covariance::Refused(code) => limits::error_number(code),
     }
 }
 
-// A run of so many steps between two pictures. The last step is in the first one where their number is even, else in the second.
+// A run of so many steps between two pictures, by the choice that a number names. The last step is in the first one where their
+// number is even, else in the second.
 pub fn run(
+    choice: u32,
     shape: Shape,
     steps: u32,
     width: u32,
@@ -99,11 +104,13 @@ pub fn run(
     first: &mut [u16],
     second: &mut [u16],
 ) -> u32
-    ensures { λ r. ⌜ r ≡ outcomeNumber (runOf shape steps width height (now (first .entry)) (now (second .entry)) .outcome) ⌝ }
-    ensures { λ _. ⌜ now (first .exit) ≡ runOf shape steps width height (now (first .entry)) (now (second .entry)) .first ⌝ }
-    ensures { λ _. ⌜ now (second .exit) ≡ runOf shape steps width height (now (first .entry)) (now (second .entry)) .second ⌝ }
+    ensures { λ r. ⌜ r ≡ outcomeNumber (runOf (choiceOf choice) shape steps width height (now (first .entry)) (now (second .entry)) .outcome) ⌝ }
+    ensures { λ _. ⌜ now (first .exit) ≡ runOf (choiceOf choice) shape steps width height (now (first .entry)) (now (second .entry)) .first ⌝ }
+    ensures { λ _. ⌜ now (second .exit) ≡ runOf (choiceOf choice) shape steps width height (now (first .entry)) (now (second .entry)) .second ⌝ }
 {
-    limits::outcome_number(smoothing::run(shape, steps, width, height, first, second))
+    let by = kernel::choice_of(choice);
+    let outcome = smoothing::run_by(by, shape, steps, width, height, first, second);
+    limits::outcome_number(outcome)
 }
 
 // An undivided difference at every place of a picture. Refusals 6 and 9.

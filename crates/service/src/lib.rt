@@ -17,6 +17,7 @@ ghost use Rattle.machine.specs.Calls.{turnedAt, submitOf, tickOf, collectOf, wi
 ghost use Rattle.service.specs.Called.{calledOf, fillAt, handOver, turnOf, Ready};
 use covariance::Covariance;
 use covariance::Shape;
+use kernel::Choice;
 use limits::ErrorCode;
 use limits::Outcome;
 use machine::Answer;
@@ -227,12 +228,13 @@ pub fn submit(
     }
 }
 
-// One step of the picture of a slot, from its buffer to the slot's other one.
+// One step of the picture of a slot, from its buffer to the slot's other one. The record holds no choice of the free number, and
+// the service goes on with the smallest.
 fn step_slot(store: &mut [u16], slot: Slot, place: usize)
     requires { ⌜ Ready (length (now store)) slot place ⌝ }
     ensures { λ _. ⌜ now (store .exit) ≡ put (bufferAfter currentRules place (stepsDone slot + 1)) (nextImage currentRules (now (store .entry)) place slot) (now (store .entry)) ⌝ }
 {
-    let answer = kernel::kernel_of(slot.xx, slot.xy, slot.yy, slot.steps);
+    let answer = kernel::kernel_by(Choice::Smallest, slot.xx, slot.xy, slot.yy, slot.steps);
     let kernel = answer.kernel;
     let done = (slot.steps - slot.left) as usize;
     let from = buffer_after(place, done);

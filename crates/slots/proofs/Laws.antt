@@ -18,7 +18,9 @@ use Rattle.limits.specs.Errors.{unless}
 use Rattle.limits.specs.declared.ErrorCode.{ErrorCode}
 use Rattle.limits.specs.declared.ErrorCode.the-variants.{StepsOutOfRange, NoKernel}
 use Rattle.limits.specs.declared.Outcome.the-variants.{Accepted, Refused}
-use Rattle.kernel.specs.Molecule.{unitsOf, kernelOf}
+use Rattle.kernel.specs.declared.Choice.{Choice}
+use Rattle.kernel.specs.Molecule.{unitsOf}
+use Rattle.kernel.specs.Choice.{kernelBy}
 use Rattle.kernel.specs.Existence.{kernelExists}
 use Rattle.kernel.specs.Answer.{answerWith, kernelAnswer}
 use Rattle.limits.proofs.Checks.{refused-not-accepted}
@@ -67,19 +69,19 @@ zero-bits (negsuc n) h =
     ∙ (let z : isZero (negsuc n) ≡ false = ne-eqb (suc n) 0 (λ e. omega arith) in sym z)
 
 -- what the outcome of the kernel call says
-pub with-kernel : (x z y : ℤ) (k : ℕ) → kernelAnswer x z y k .outcome ≡ Accepted → (stepsInRange k && kernelExists x z y (unitsOf k)) ≡ true
-with-kernel x z y k = go (stepsInRange k) (kernelExists x z y (unitsOf k))
+pub with-kernel : (choice : Choice) (x z y : ℤ) (k : ℕ) → kernelAnswer choice x z y k .outcome ≡ Accepted → (stepsInRange k && kernelExists x z y (unitsOf k)) ≡ true
+with-kernel choice x z y k = go (stepsInRange k) (kernelExists x z y (unitsOf k))
   where
-    go : (a b : Bool) → answerWith (unless a (Refused StepsOutOfRange) (unless b (Refused NoKernel) Accepted)) (kernelOf x z y k) .outcome ≡ Accepted → a && b ≡ true
+    go : (a b : Bool) → answerWith (unless a (Refused StepsOutOfRange) (unless b (Refused NoKernel) Accepted)) (kernelBy choice x z y k) .outcome ≡ Accepted → a && b ≡ true
     go true true e = refl
     go true false e = absurd (refused-not-accepted e)
     go false b e = absurd (refused-not-accepted e)
 
-pub without-kernel : (x z y : ℤ) (k : ℕ) (code : ErrorCode) → kernelAnswer x z y k .outcome ≡ Refused code
+pub without-kernel : (choice : Choice) (x z y : ℤ) (k : ℕ) (code : ErrorCode) → kernelAnswer choice x z y k .outcome ≡ Refused code
     → (stepsInRange k && kernelExists x z y (unitsOf k)) ≡ false
-without-kernel x z y k code = go (stepsInRange k) (kernelExists x z y (unitsOf k))
+without-kernel choice x z y k code = go (stepsInRange k) (kernelExists x z y (unitsOf k))
   where
-    go : (a b : Bool) → answerWith (unless a (Refused StepsOutOfRange) (unless b (Refused NoKernel) Accepted)) (kernelOf x z y k) .outcome ≡ Refused code → a && b ≡ false
+    go : (a b : Bool) → answerWith (unless a (Refused StepsOutOfRange) (unless b (Refused NoKernel) Accepted)) (kernelBy choice x z y k) .outcome ≡ Refused code → a && b ≡ false
     go true true e = absurd (refused-not-accepted (sym e))
     go true false e = refl
     go false b e = refl

@@ -12,6 +12,7 @@ ghost use Rattle.machine.specs.Slots.{slotCount, emptySlot, nextPlace, firstFro
 ghost use Rattle.machine.specs.Order.{isZero, allZero, filledFine, inOrder as inOrderOf};
 ghost use Rattle.slots.specs.Sought.{testOf};
 ghost use Rattle.slots.specs.Numbers.{numbersOf, occurrencesOf, slotFineAfter};
+use kernel::Choice;
 use limits::Outcome;
 use limits::both;
 use machine::Found;
@@ -119,11 +120,11 @@ fn is_zero(v: i32) -> bool
     v == 0
 }
 
-// Whether the steps are in range and a kernel exists.
+// Whether the steps are in range and a kernel exists, which is the same for each choice of the free number.
 pub fn has_kernel(xx: i32, xy: i32, yy: i32, steps: u32) -> bool
     ensures { λ r. ⌜ r ≡ (stepsInRange steps && kernelExists xx xy yy (unitsOf steps)) ⌝ }
 {
-    let answer = kernel::kernel_of(xx, xy, yy, steps);
+    let answer = kernel::kernel_by(Choice::Smallest, xx, xy, yy, steps);
     let outcome = answer.outcome;
     match outcome {
         Outcome::Accepted => true,

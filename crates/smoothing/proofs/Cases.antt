@@ -7,6 +7,8 @@ use Prim.Native.Nat.{ℕ}
 use lib.IntN.{pos}
 use lib.Ieee.{Float, nan, fin, add, mul, le}
 use Rattle.limits.specs.Errors.{firstRefusal, outcomeNumber}
+use Rattle.kernel.specs.declared.Choice.{Choice}
+use Rattle.kernel.specs.declared.Choice.the-variants.{Binomial, Smallest}
 use Rattle.kernel.specs.Molecule.{kernelWith}
 use Rattle.kernel.specs.Existence.{kernelExists}
 use Rattle.image.specs.Image.{pixelAt, entries, rows}
@@ -65,12 +67,12 @@ requested = refl
 
 -- ---- k steps of a covariance xx, 0, 0 over the row 0 4 0 0, the second picture full of nines: xx, k, the two pictures after the
 -- run, and what is shown of them. With xx = 4096 × k each step goes half to the left and half to the right. After 65 steps, and
--- where no kernel exists, nothing has changed, and nothing is shown.
+-- where no kernel exists, nothing has changed, and nothing is shown. The free number is 0 by either choice, since yy is.
 abbrev pub pushes : ℕ → Shape
 pushes xx = Matrix (pos xx) (pos 0) (pos 0)
 
-abbrev pub after : ℕ → ℕ → Result
-after xx k = runOf (pushes xx) k 4 1 (0 ∷ 4 ∷ 0 ∷ 0 ∷ []) (9 ∷ 9 ∷ 9 ∷ 9 ∷ [])
+abbrev pub after : Choice → ℕ → ℕ → Result
+after choice xx k = runOf choice (pushes xx) k 4 1 (0 ∷ 4 ∷ 0 ∷ 0 ∷ []) (9 ∷ 9 ∷ 9 ∷ 9 ∷ [])
 
 abbrev pub runs : List (ℕ × ℕ × List ℕ × List ℕ × List ℕ)
 runs =
@@ -81,8 +83,9 @@ runs =
     ∷ (8193, 2, 0 ∷ 4 ∷ 0 ∷ 0 ∷ [], 9 ∷ 9 ∷ 9 ∷ 9 ∷ [], [])
     ∷ []
 
-pub ran : map (λ row. let a = after (row .0) (row .1) in
+pub ran : (choice : Choice) → map (λ row. let a = after choice (row .0) (row .1) in
     (row .0, row .1, a .first, a .second, shownOf (pushes (row .0)) (row .1) 4 1 (a .first) (a .second))) runs
     ≡ runs
 unfolding variancesFine directionFine covarianceXX covarianceXY covarianceYY kernelExists kernelWith pixelAt entries rows weightedAt stepOf iterate runOf shownOf
-ran = refl
+ran Binomial = refl
+ran Smallest = refl

@@ -11,15 +11,16 @@ use Rattle.limits.specs.declared.Outcome.the-variants.{Accepted, Refused}
 use Rattle.limits.specs.declared.ErrorCode.{ErrorCode}
 use Rattle.limits.specs.declared.ErrorCode.the-variants.{NoKernel}
 use Rattle.limits.proofs.Laws.{both-true, in-range}
+use Rattle.kernel.specs.declared.Choice.{Choice}
 use Rattle.kernel.specs.declared.Kernel.{Kernel}
 use Rattle.kernel.specs.Molecule.{unitsOf}
 use Rattle.kernel.specs.Existence.{kernelExists}
 use Rattle.kernel.specs.Sound.{Sound}
 use Rattle.kernel.specs.Answer.{answerWith, kernelAnswer}
-use Rattle.kernel.proofs.Theorems.{sound}
+use Rattle.kernel.proofs.Theorems.{sound-by}
 use Rattle.covariance.specs.declared.Shape.{Shape}
 use Rattle.covariance.specs.declared.Covariance.{Covariance}
-use Rattle.covariance.specs.Shapes.{covarianceXX, covarianceXY, covarianceYY, kernelOfShape}
+use Rattle.covariance.specs.Shapes.{covarianceXX, covarianceXY, covarianceYY, kernelOfShapeBy}
 use Rattle.covariance.specs.Answer.{covarianceAnswer}
 use Rattle.covariance.proofs.Answers.{Passed, stopped, kernel-passed}
 use Rattle.row_core.specs.Prepared.{StepKernel}
@@ -56,17 +57,18 @@ module _ (shape : Shape) (k w h n m : ℕ) where
     pub pictures-refused : (code : ErrorCode) → firstRefusal (pictureChecks k w h n m) ≡ Refused code → firstRefusal (runChecks shape k w h n m) ≡ Refused code
     pictures-refused code e = rw (p .variances, p .direction) (in-turn (pictureChecks k w h n m) (kernelCheck shape k) ∙ rw e)
 
-    pub kernel-decides : firstRefusal (pictureChecks k w h n m) ≡ Accepted
-        → kernelAnswer xx xy yy k ≡ answerWith (firstRefusal (runChecks shape k w h n m)) (kernelOfShape shape k)
-    kernel-decides e =
+    pub kernel-decides : (choice : Choice) → firstRefusal (pictureChecks k w h n m) ≡ Accepted
+        → kernelAnswer choice xx xy yy k ≡ answerWith (firstRefusal (runChecks shape k w h n m)) (kernelOfShapeBy choice shape k)
+    kernel-decides choice e =
         let steps = all-hold (pictureChecks k w h n m) e .0 in
-        kernel-passed shape k p ∙ rw (p .variances, p .direction, in-turn (pictureChecks k w h n m) (kernelCheck shape k), e, steps)
+        kernel-passed shape choice k p ∙ rw (p .variances, p .direction, in-turn (pictureChecks k w h n m) (kernelCheck shape k), e, steps)
 
-  -- the kernel of an accepted run is one to make steps with
-  pub kernel-sound : firstRefusal (runChecks shape k w h n m) ≡ Accepted → Sound (kernelOfShape shape k) k
-  kernel-sound e =
-      let holds = all-hold (runChecks shape k w h n m) e in
-      sound (covarianceXX shape) (covarianceXY shape) (covarianceYY shape) k (holds .1 .1 .0) (holds .1 .1 .1 .1 .1 .1 .0)
+-- the kernel of an accepted run is one to make steps with
+pub kernel-sound : (choice : Choice) (shape : Shape) (k w h n m : ℕ) → firstRefusal (runChecks shape k w h n m) ≡ Accepted
+    → Sound (kernelOfShapeBy choice shape k) k
+kernel-sound choice shape k w h n m e =
+    let holds = all-hold (runChecks shape k w h n m) e in
+    sound-by choice (covarianceXX shape) (covarianceXY shape) (covarianceYY shape) k (holds .1 .1 .0) (holds .1 .1 .1 .1 .1 .1 .0)
 
 -- ---- an answer with a kernel, or with a refusal
 module _ (kernel : Kernel) (k : ℕ) where

@@ -9,9 +9,10 @@ use Rattle.limits.specs.Errors.{Check, _otherwise_, firstRefusal}
 use Rattle.limits.specs.declared.Outcome.{Outcome}
 use Rattle.limits.specs.declared.Outcome.the-variants.{Accepted, Refused}
 use Rattle.limits.specs.declared.ErrorCode.the-variants.{VarianceOutOfRange, NotADirection, StepsOutOfRange, SideOutOfRange, WrongLength, NoKernel}
+use Rattle.kernel.specs.declared.Choice.{Choice}
 use Rattle.kernel.specs.declared.Kernel.{Kernel}
 use Rattle.covariance.specs.declared.Shape.{Shape}
-use Rattle.covariance.specs.Shapes.{variancesFine, directionFine, shapeHasKernel, kernelOfShape}
+use Rattle.covariance.specs.Shapes.{variancesFine, directionFine, shapeHasKernel, kernelOfShapeBy}
 use Rattle.averaging.specs.Steps.{stepsOf}
 
 -- refusals 3, 4, 5, 6, 9 and 11, in checking order, of two lent pictures of so many pixels. Refusal 9: "A lent picture's length
@@ -55,6 +56,7 @@ runWith Accepted kernel k w h first second =
     }
 runWith (Refused code) kernel k w h first second = record { outcome = Refused code; first = first; second = second }
 
-unfoldable pub runOf : Shape → ℕ → ℕ → ℕ → List ℕ → List ℕ → Result
-runOf shape k w h first second =
-    runWith (firstRefusal (runChecks shape k w h (length first) (length second))) (kernelOfShape shape k) k w h first second
+-- the run by a choice (document 02, S-2): its checks have none, since a kernel exists by each choice or by none
+unfoldable pub runOf : Choice → Shape → ℕ → ℕ → ℕ → List ℕ → List ℕ → Result
+runOf choice shape k w h first second =
+    runWith (firstRefusal (runChecks shape k w h (length first) (length second))) (kernelOfShapeBy choice shape k) k w h first second

@@ -1,5 +1,6 @@
-// The run: k smoothing steps between two lent pictures, there and back, and the part of the two that its reader is shown. Both
-// public calls take any numbers and any lengths: what does not fit is refused, and then no pixel has changed.
+// The run: k smoothing steps between two lent pictures, there and back, and the part of the two that its reader is shown. The
+// public calls take any numbers and any lengths: what does not fit is refused, and then no pixel has changed. Each stands once
+// with a choice of the free number and once without.
 ghost use mathlib.Core.Path.{_≡_};
 ghost use Prim.Native.Nat.{_≤_};
 ghost use lib.ListN.{length};
@@ -8,12 +9,14 @@ ghost use Rattle.averaging.specs.Steps.{stepOf, stepsOf};
 ghost use Rattle.row_core.specs.Prepared.{StepKernel};
 ghost use Rattle.stepping.specs.Step.{PicturePair};
 ghost use Rattle.kernel.specs.Answer.{answerWith};
-ghost use Rattle.covariance.specs.Shapes.{kernelOfShape};
+ghost use Rattle.kernel.specs.Choice.{defaultChoice};
+ghost use Rattle.covariance.specs.Shapes.{kernelOfShapeBy};
 ghost use Rattle.smoothing.specs.Checks.{pictureChecks};
 ghost use Rattle.smoothing.specs.Runs.{runChecks, stepsInFirst, stepsInSecond, runWith, runOf};
 ghost use Rattle.smoothing.specs.Shown.{shownOf};
 use covariance::Covariance;
 use covariance::Shape;
+use kernel::Choice;
 use kernel::Kernel;
 use kernel::KernelAnswer;
 use limits::ErrorCode;
@@ -118,6 +121,7 @@ fn checked(steps: u32, width: u32, height: u32, first: usize, second: usize) -> 
 
 // The kernel of a run with two pictures of so many pixels, or the first of refusals 3, 4, 5, 6, 9 and 11 that applies.
 fn run_kernel(
+    choice: Choice,
     shape: Shape,
     steps: u32,
     width: u32,
@@ -125,12 +129,12 @@ fn run_kernel(
     first: usize,
     second: usize,
 ) -> KernelAnswer
-    ensures { λ r. ⌜ r ≡ answerWith (firstRefusal (runChecks shape steps width height first second)) (kernelOfShape shape steps) ⌝ }
+    ensures { λ r. ⌜ r ≡ answerWith (firstRefusal (runChecks shape steps width height first second)) (kernelOfShapeBy choice shape steps) ⌝ }
 {
     match covariance::covariance_of(shape) {
         Covariance::Entries(xx, xy, yy) => {
             match checked(steps, width, height, first, second) {
-                Outcome::Accepted => kernel::kernel_of(xx, xy, yy, steps),
+                Outcome::Accepted => kernel::kernel_by(choice, xx, xy, yy, steps),
                 Outcome::Refused(code) => kernel::refused(code),
             }
         }
@@ -140,6 +144,26 @@ fn run_kernel(
 
 // Document 01's run: the first picture is smoothed in so many steps with the kernel of a shape, or refusal 3, 4, 5, 6, 9 or 11.
 // The last step ends in the first picture where their number is even, else in the second; the other holds the step before it.
+pub fn run_by(
+    choice: Choice,
+    shape: Shape,
+    steps: u32,
+    width: u32,
+    height: u32,
+    first: &mut [u16],
+    second: &mut [u16],
+) -> Outcome
+    ensures outcome { λ r. ⌜ r ≡ runOf choice shape steps width height (now (first .entry)) (now (second .entry)) .outcome ⌝ }
+    ensures first { λ _. ⌜ now (first .exit) ≡ runOf choice shape steps width height (now (first .entry)) (now (second .entry)) .first ⌝ }
+    ensures second { λ _. ⌜ now (second .exit) ≡ runOf choice shape steps width height (now (first .entry)) (now (second .entry)) .second ⌝ }
+{
+    let in_first = first.len();
+    let in_second = second.len();
+    let answer = run_kernel(choice, shape, steps, width, height, in_first, in_second);
+    run_with(answer, steps, width, height, first, second)
+}
+
+// The same where no choice is named.
 pub fn run(
     shape: Shape,
     steps: u32,
@@ -148,17 +172,18 @@ pub fn run(
     first: &mut [u16],
     second: &mut [u16],
 ) -> Outcome
-    ensures outcome { λ r. ⌜ r ≡ runOf shape steps width height (now (first .entry)) (now (second .entry)) .outcome ⌝ }
-    ensures first { λ _. ⌜ now (first .exit) ≡ runOf shape steps width height (now (first .entry)) (now (second .entry)) .first ⌝ }
-    ensures second { λ _. ⌜ now (second .exit) ≡ runOf shape steps width height (now (first .entry)) (now (second .entry)) .second ⌝ }
+    ensures outcome { λ r. ⌜ r ≡ runOf defaultChoice shape steps width height (now (first .entry)) (now (second .entry)) .outcome ⌝ }
+    ensures first { λ _. ⌜ now (first .exit) ≡ runOf defaultChoice shape steps width height (now (first .entry)) (now (second .entry)) .first ⌝ }
+    ensures second { λ _. ⌜ now (second .exit) ≡ runOf defaultChoice shape steps width height (now (first .entry)) (now (second .entry)) .second ⌝ }
 {
-    let answer = run_kernel(shape, steps, width, height, first.len(), second.len());
-    run_with(answer, steps, width, height, first, second)
+    run_by(Choice::Binomial, shape, steps, width, height, first, second)
 }
 
 // What the reader of a run is shown: the pixels of its last step, or an empty part where the run with the same arguments is
 // refused. A run changes no length, so it is refused with the pictures that it left exactly where it was with those it found.
-pub fn shown<'a>(
+// Which part that is, and whether there is one, is the same for each choice.
+pub fn shown_by<'a>(
+    choice: Choice,
     shape: Shape,
     steps: u32,
     width: u32,
@@ -168,7 +193,9 @@ pub fn shown<'a>(
 ) -> &'a [u16]
     ensures { λ r. ⌜ now r ≡ shownOf shape steps width height (now (first .entry)) (now (second .entry)) ⌝ }
 {
-    let checked_kernel = run_kernel(shape, steps, width, height, first.len(), second.len());
+    let in_first = first.len();
+    let in_second = second.len();
+    let checked_kernel = run_kernel(choice, shape, steps, width, height, in_first, in_second);
     let outcome = checked_kernel.outcome;
     match outcome {
         Outcome::Accepted => {
@@ -181,4 +208,18 @@ pub fn shown<'a>(
         }
         Outcome::Refused(_) => &first[..0],
     }
+}
+
+// The same where no choice is named.
+pub fn shown<'a>(
+    shape: Shape,
+    steps: u32,
+    width: u32,
+    height: u32,
+    first: &'a [u16],
+    second: &'a [u16],
+) -> &'a [u16]
+    ensures { λ r. ⌜ now r ≡ shownOf shape steps width height (now (first .entry)) (now (second .entry)) ⌝ }
+{
+    shown_by(Choice::Binomial, shape, steps, width, height, first, second)
 }

@@ -1,9 +1,10 @@
-//! Prints the kernels of 4,000 covariances, one on a line: the answer (0 or
-//! the number of the refusal), nine weights and their sum, zeros where refused.
+//! Prints the kernels of 4,000 covariances, two lines for each, first by the
+//! smallest choice and then by S-2's rule: the answer (0 or the number of the
+//! refusal), nine weights and their sum, zeros where refused.
 //! The covariances come from the recurrence x -> 48271 x mod 2^31 - 1, so that
 //! a program without input can make the same ones.
 
-use reference::kernel::{kernel, Covariance};
+use reference::kernel::{kernel_by, Choice, Covariance};
 
 const MODULUS: u64 = 2_147_483_647;
 
@@ -16,6 +17,15 @@ fn around(x: u64, spread: u64) -> i32 {
     let size = (spread % 400_000 + 1) as i64;
     let n = (x % (2 * size as u64 + 1)) as i64;
     (n - size) as i32
+}
+
+fn print_kernel(choice: Choice, covariance: Covariance, steps: u32) {
+    let (answer, weights, sum) = match kernel_by(choice, covariance, steps) {
+        Ok(kernel) => (0, kernel.weights, kernel.sum),
+        Err(refusal) => (refusal, [0; 9], 0),
+    };
+    let weights: Vec<String> = weights.iter().map(u64::to_string).collect();
+    println!("{answer} {} {sum}", weights.join(" "));
 }
 
 fn main() {
@@ -32,12 +42,9 @@ fn main() {
             xy: around(b, units / 2),
             yy: around(c, units),
         };
-        let (answer, weights, sum) = match kernel(covariance, steps) {
-            Ok(kernel) => (0, kernel.weights, kernel.sum),
-            Err(refusal) => (refusal, [0; 9], 0),
-        };
-        let weights: Vec<String> = weights.iter().map(u64::to_string).collect();
-        println!("{answer} {} {sum}", weights.join(" "));
+        for choice in [Choice::Smallest, Choice::Binomial] {
+            print_kernel(choice, covariance, steps);
+        }
         x = d;
     }
 }

@@ -3,7 +3,7 @@
 //!
 //! All numbers are decimal and parted by one blank. The listed border cases
 //! come first, then random ones, COUNT lines together. An answer is 0 or the
-//! number of the refusal.
+//! number of the refusal; kernels are those of a caller who names no choice.
 //!
 //! - `kernels`: xx xy yy k answer, nine weights, their sum (zeros where refused).
 //! - `shapes`: `R` variance, `O` long short cosine sine, or `M` xx xy yy;

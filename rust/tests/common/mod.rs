@@ -4,10 +4,10 @@
 #![allow(dead_code)]
 
 use reference::error_code::ErrorCode;
-use reference::kernel::Covariance as ModelCovariance;
+use reference::kernel::{Choice as ModelChoice, Covariance as ModelCovariance};
 use reference::random::Random;
 use reference::shape::{Direction as ModelDirection, Shape as ModelShape};
-use vokhsaot::{Direction, Error, Shape};
+use vokhsaot::{Choice, Direction, Error, Shape};
 
 fn setting(name: &str) -> u64 {
     std::env::var(name).map_or(1, |text| text.parse().expect("a whole number"))
@@ -25,6 +25,12 @@ pub fn inputs(test: u64) -> Random {
 pub fn times(count: u64) -> u64 {
     count * setting("VOKHSAOT_TIMES")
 }
+
+/// The library's choices, each beside the independent program's.
+pub const CHOICES: [(Choice, ModelChoice); 2] = [
+    (Choice::Binomial, ModelChoice::Binomial),
+    (Choice::Smallest, ModelChoice::Smallest),
+];
 
 pub fn direction_of(direction: ModelDirection) -> Direction {
     let ModelDirection { cosine, sine } = direction;

@@ -1,7 +1,8 @@
 //! A filled seat, read from the words of a record.
 
-use crate::model::SEAT_WORDS;
-use reference::kernel::{kernel, Covariance, Kernel};
+use crate::model::{choice_of, SEAT_WORDS};
+use crate::services::JOB_CHOICE;
+use reference::kernel::{kernel_by, Covariance, Kernel};
 use std::ops::Range;
 use vokhsaot::{BUFFER_PIXELS, SEATS};
 
@@ -80,6 +81,7 @@ impl Seat {
 
     /// The kernel of another covariance, in as many steps.
     pub fn kernel_of(&self, covariance: Covariance) -> Kernel {
-        kernel(covariance, self.steps).expect("a filled seat has a kernel")
+        let found = kernel_by(choice_of(JOB_CHOICE), covariance, self.steps);
+        found.expect("a filled seat has a kernel")
     }
 }

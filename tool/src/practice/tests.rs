@@ -7,10 +7,10 @@ use crate::list::{self, Call, Pixels, Store, Submission};
 use crate::mixture::{follow, Mixture};
 use crate::model::Model;
 use crate::rules::Rule;
-use crate::services::{proved, Opening};
+use crate::services::{proved, Opening, JOB_CHOICE};
 use reference::random::Random;
 use std::collections::{BTreeMap, BTreeSet};
-use vokhsaot::{run, shown, Direction, Error, Shape};
+use vokhsaot::{run_by, shown, Direction, Error, Shape};
 
 /// By number, rules that the calls of an answer break. The first is among those that a soak finds broken first.
 const BROKEN: [&[Rule]; 33] = [
@@ -111,7 +111,7 @@ fn collect(service: &mut dyn Service, trial: &Submission, number: u64) -> Result
     service.collect(number, &mut picture).map(|_| picture)
 }
 
-/// The picture that the library's run shows.
+/// The picture that the library's run by the choice of a job shows.
 fn run_of(trial: &Submission) -> Vec<u16> {
     let (mut first, mut second) = (trial.picture(), trial.picture());
     let Submission {
@@ -121,7 +121,8 @@ fn run_of(trial: &Submission) -> Vec<u16> {
         height,
         ..
     } = *trial;
-    run(shape, steps, width, height, &mut first, &mut second).unwrap();
+    let (one, two) = (&mut first, &mut second);
+    run_by(JOB_CHOICE, shape, steps, width, height, one, two).unwrap();
     shown(steps, &first, &second).to_vec()
 }
 

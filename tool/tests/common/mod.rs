@@ -1,6 +1,8 @@
 //! What the tests share: folders of their own, the tool, and the commands of netpbm.
 #![allow(dead_code)]
 
+use reference::kernel::Choice;
+use reference::random::Random;
 use reference::shape::Shape;
 use std::fs;
 use std::io::Write;
@@ -11,6 +13,13 @@ use std::thread;
 
 /// The tool.
 pub const TOOL: &str = env!("CARGO_BIN_EXE_vokhsaot");
+
+/// The choices of f with their options. Who names none gets the first.
+pub const CHOICES: [(Choice, &str); 3] = [
+    (Choice::Binomial, ""),
+    (Choice::Binomial, "--choice binomial"),
+    (Choice::Smallest, "--choice smallest"),
+];
 
 /// An empty folder, taken away at the end.
 pub struct Folder(PathBuf);
@@ -162,4 +171,14 @@ pub fn option(shape: Shape) -> String {
             direction.cosine, direction.sine
         ),
     }
+}
+
+/// A matrix whose larger variance is all that its steps can carry, or one unit less.
+pub fn full_shape(random: &mut Random) -> (Shape, u32) {
+    let steps = random.between(1, 64) as u32;
+    let larger = 4096 * i64::from(steps) - random.between(0, 1);
+    let smaller = random.between(0, larger);
+    let xy = random.between(-smaller, smaller);
+    let (xx, yy) = random.pick(&[(larger, smaller), (smaller, larger)]);
+    (Shape::matrix(xx as i32, xy as i32, yy as i32), steps)
 }

@@ -1,6 +1,7 @@
 #!/usr/bin/env bash
-# run.sh FOLDER: the tool linked to a library with a fault at its exported boundary, for each of wrapper.c's faults. `replay`
-# has to tell what is wrong in capitals with exit status 1, and nothing where the library has none. FOLDER has libcapi.a.
+# run.sh FOLDER: the tool linked to a library with a fault at its exported boundary, for each of wrapper.c's faults. `replay`, or
+# another command that meets the fault, has to tell what is wrong in capitals with exit status 1, and nothing where the library has
+# none. FOLDER has libcapi.a.
 set -eu
 here=$(cd "$(dirname "$0")" && pwd)
 library=$(cd "$1" && pwd)
@@ -9,7 +10,7 @@ trap 'rm -rf "$work"' EXIT
 
 # The proved calls under other names, and the faulty ones beside them.
 renamed=()
-for call in opening tick collect withdraw free_count; do
+for call in opening tick collect withdraw free_count run_matrix_by; do
     renamed+=(--redefine-sym "vokhsaot_$call=proved_$call")
 done
 objcopy "${renamed[@]}" "$library/libcapi.a" "$work/libcapi.a"
@@ -30,11 +31,23 @@ collect 1
 collect 2
 LIST
 
+# A step in which the two choices of f differ, and its picture by the smallest.
+echo 'P2 3 3 1600  0 0 0  0 1600 0  0 0 0' >"$work/spot.pgm"
+echo 'P2 3 3 1600  0 400 0  400 0 400  0 400 0' >"$work/hollow.pgm"
+cat >"$work/one-step.list" <<'LIST'
+submit matrix 2048 0 2048 steps 1 size 3 3 pixels 0 0 0 0 1600 0 0 0 0
+tick
+collect 1
+LIST
+
 failed=0
-# check FAULT STATUS WORDS: what replay says of a fault
+# check FAULT STATUS WORDS [ARGUMENTS]: what the tool says of a fault, by default in a replay of the day's list
 check() {
-    local status=0 text
-    text=$(VOKHSAOT_FAULT=$1 "$work/vokhsaot" replay "$work/day.list" 2>&1) || status=$?
+    local status=0 text arguments=(replay "$work/day.list")
+    if [ $# -gt 3 ]; then
+        arguments=("${@:4}")
+    fi
+    text=$(VOKHSAOT_FAULT=$1 "$work/vokhsaot" "${arguments[@]}" 2>&1) || status=$?
     if [ "$status" = "$2" ] && grep -qF "$3" <<<"$text" && ! grep -q panicked <<<"$text"; then
         echo "fault $1: $3"
     else
@@ -53,6 +66,16 @@ check 7 1 'NO ANSWER: the opening came back with a number that is no refusal'
 check 8 1 'WRONG OPENING: the seat last served is 3 (due: 7)'
 check 9 1 'NO ANSWER: the free count came back with a number that is no refusal'
 check 10 1 'NO ANSWER: it did not end within 5 seconds'
+by_smallest=(compare --matrix '2048,0,2048' --steps 1 --choice smallest "$work/spot.pgm" "$work/hollow.pgm")
+check 0 0 "library's run, steps 1: equal" "${by_smallest[@]}"
+check 11 1 "library's run, steps 1: 9 of 9 pixels DIFFER" "${by_smallest[@]}"
+check 0 0 'verdict: good: ' replay "$work/one-step.list"
+check 12 1 'WRONG STORE: buffer 1 (seat 0, job 1): pixel 0 is 100 (due: 0)' replay "$work/one-step.list"
+check 12 1 'job 1: DIFFERS from its lone run' replay "$work/one-step.list"
+# The heights of `steps` are ticks by the smallest f, and none of a run by another.
+spot_steps=(steps --matrix '2048,0,2048' --steps 1 --at '0,0' "$work/spot.pgm")
+check 5 1 "DIFFERS from the run's 0" "${spot_steps[@]}" --choice smallest
+check 5 0 'step 1  100' "${spot_steps[@]}"
 
 # soak writes the list of a call that does not come back: its last call is the one.
 soaked=0

@@ -2,6 +2,7 @@
 
 #include "vokhsaot.h"
 #include <stdlib.h>
+#include <string.h>
 
 uint32_t proved_opening(uint64_t *words, size_t words_len);
 uint32_t proved_tick(uint64_t *words, size_t words_len, uint16_t *store, size_t store_len, uint64_t *number);
@@ -9,6 +10,8 @@ uint32_t proved_collect(uint64_t *words, size_t words_len, const uint16_t *store
                         uint16_t *picture, size_t picture_len, uint64_t *number);
 uint32_t proved_withdraw(uint64_t *words, size_t words_len, uint64_t job, uint64_t *number);
 uint32_t proved_free_count(const uint64_t *words, size_t words_len, uint32_t *count);
+uint32_t proved_run_matrix_by(uint32_t choice, int32_t xx, int32_t xy, int32_t yy, uint32_t steps, uint32_t width,
+                              uint32_t height, uint16_t *first, size_t first_len, uint16_t *second, size_t second_len);
 
 static int fault(void) {
     const char *number = getenv("VOKHSAOT_FAULT");
@@ -24,7 +27,17 @@ uint32_t vokhsaot_free_count(const uint64_t *words, size_t words_len, uint32_t *
     return fault() == 9 ? 77 : code;
 }
 
-/* 2: every third tick is idle, whatever is left. 5: a step leaves the first pixel of the store's first odd buffer one too large. */
+/* Does the only step of a job of one step again, by the choice of a run that names none: the job is the one in the first seat. */
+static void step_by_the_usual_choice(const uint64_t *words, uint16_t *store) {
+    uint16_t before[VOKHSAOT_BUFFER_PIXELS];
+    size_t pixels = (size_t)(words[6] * words[7]);
+    memcpy(before, store, sizeof before);
+    proved_run_matrix_by(VOKHSAOT_BINOMIAL, (int32_t)words[1], (int32_t)words[2], (int32_t)words[3], 1, (uint32_t)words[6],
+                         (uint32_t)words[7], before, pixels, store + VOKHSAOT_BUFFER_PIXELS, pixels);
+}
+
+/* 2: every third tick is idle, whatever is left. 5: a step leaves the first pixel of the store's first odd buffer one too large.
+   12: the step of a job of one step is not by the smallest f. */
 uint32_t vokhsaot_tick(uint64_t *words, size_t words_len, uint16_t *store, size_t store_len, uint64_t *number) {
     static unsigned calls = 0;
     calls += 1;
@@ -36,7 +49,17 @@ uint32_t vokhsaot_tick(uint64_t *words, size_t words_len, uint16_t *store, size_
     if (fault() == 5 && code == 0 && *number != 0) {
         store[VOKHSAOT_BUFFER_PIXELS] += 1;
     }
+    if (fault() == 12 && code == 0 && *number != 0 && words[0] == *number && words[4] == 1) {
+        step_by_the_usual_choice(words, store);
+    }
     return code;
+}
+
+/* 11: a run that does not heed the choice it is told. */
+uint32_t vokhsaot_run_matrix_by(uint32_t choice, int32_t xx, int32_t xy, int32_t yy, uint32_t steps, uint32_t width,
+                                uint32_t height, uint16_t *first, size_t first_len, uint16_t *second, size_t second_len) {
+    return proved_run_matrix_by(fault() == 11 ? VOKHSAOT_BINOMIAL : choice, xx, xy, yy, steps, width, height, first, first_len, second,
+                                second_len);
 }
 
 /* 3: no job is ever handed over. 4: the last pixel handed over is one too small. */

@@ -10,9 +10,10 @@ use mir.ValLaws.{toZ-ofZ}
 use denote.Ref.{now}
 use Rattle.limits.specs.Errors.{firstRefusal}
 use Rattle.limits.specs.declared.Outcome.the-variants.{Accepted}
+use Rattle.kernel.specs.Choice.{defaultChoice}
 use Rattle.kernel.specs.Answer.{kernelAnswer}
 use Rattle.kernel.proofs.Answers.{present}
-use Rattle.kernel.proofs.Theorems.{sound}
+use Rattle.kernel.proofs.Theorems.{sound-by}
 use Rattle.limits.proofs.Checks.{all-hold}
 use Rattle.averaging.proofs.Runs.{normalized}
 use Rattle.job_printer.specs.Lines.{kernelText, pictureText}
@@ -23,24 +24,24 @@ use Rattle.job_text.proofs.put_result.Statement.{statement}
 use Rattle.job_text.proofs.put_result.Tie as tie
 
 module _ (h : Header) (accepted : firstRefusal (jobChecks h) ≡ Accepted) where
-  answered : kernelAnswer (h .xx) (h .xy) (h .yy) (h .steps) .kernel ≡ jobKernel h
-  answered = let holds = all-hold (jobChecks h) accepted in rw (present (h .xx) (h .xy) (h .yy) (h .steps) (holds .0) (holds .1 .1 .0))
+  answered : kernelAnswer defaultChoice (h .xx) (h .xy) (h .yy) (h .steps) .kernel ≡ jobKernel h
+  answered = let holds = all-hold (jobChecks h) accepted in rw (present defaultChoice (h .xx) (h .xy) (h .yy) (h .steps) (holds .0) (holds .1 .1 .0))
 
   positive : 0 < jobKernel h .sum
   positive =
       let holds = all-hold (jobChecks h) accepted in
-      normalized (jobKernel h) (h .steps) (sound (h .xx) (h .xy) (h .yy) (h .steps) (holds .0) (holds .1 .1 .0)) .positive
+      normalized (jobKernel h) (h .steps) (sound-by defaultChoice (h .xx) (h .xy) (h .yy) (h .steps) (holds .0) (holds .1 .1 .0)) .positive
 
-kernel-of-requires : tie.Need-kernel-of-requires
-kernel-of-requires c κs = search needs
+kernel-by-requires : tie.Need-kernel-by-requires
+kernel-by-requires c κs = search needs
 
-abbrev start-of : tie.After-kernel-of → tie.Start
+abbrev start-of : tie.After-kernel-by → tie.Start
 start-of c = c .before .before .before .before .before .before
 
-kernel-is : (c : tie.After-kernel-of) → c .kernel-of .result .kernel ≡ jobKernel (start-of c .args .header)
+kernel-is : (c : tie.After-kernel-by) → c .kernel-by .result .kernel ≡ jobKernel (start-of c .args .header)
 kernel-is c =
     let h = start-of c .args .header in
-    ap (λ a. a .kernel) (c .kernel-of .ensures) ∙ rw (toZ-ofZ w32 (h .xx) (search needs), toZ-ofZ w32 (h .xy) (search needs), toZ-ofZ w32 (h .yy) (search needs)) (answered h (start-of c .pre .0))
+    ap (λ a. a .kernel) (c .kernel-by .ensures) ∙ rw (toZ-ofZ w32 (h .xx) (search needs), toZ-ofZ w32 (h .xy) (search needs), toZ-ofZ w32 (h .yy) (search needs)) (answered h (start-of c .pre .0))
 
 -- what is still to be written
 abbrev kernel-text : tie.Start → List ℕ
@@ -81,4 +82,4 @@ returns c =
     last-part (picture-text s) (p .put-kernel .last .0) (q .put-picture .last .0) (p .put-kernel .result) (q .put-picture .result) (after-kernel p) (q .put-picture .ensures)
 
 pub put-result-spec : {M : Type 1} → statement M
-put-result-spec = tie.close (tie.spec kernel-of-requires put-kernel-requires put-picture-requires same-length returns)
+put-result-spec = tie.close (tie.spec kernel-by-requires put-kernel-requires put-picture-requires same-length returns)

@@ -8,6 +8,7 @@ use denote.Ref.{now}
 use lib.ListN.{length}
 use Rattle.limits.specs.Errors.{firstRefusal}
 use Rattle.limits.specs.declared.Outcome.the-variants.{Accepted}
+use Rattle.kernel.specs.Choice.{defaultChoice}
 use Rattle.smoothing.specs.Runs.{Result, runOf}
 use Rattle.smoothing.proofs.Theorems.{shownAfter}
 use Rattle.job_printer.specs.Lines.{refusalText}
@@ -25,7 +26,7 @@ abbrev start-of : tie.After-run → tie.Start
 start-of c = c .before .before .before .before .before .before .before
 
 abbrev ran : tie.After-run → Result
-ran c = let a = start-of c .args in runOf (shapeOf (a .header)) (a .header .steps) (a .header .width) (a .header .height) (now (a .first)) (now (a .second))
+ran c = let a = start-of c .args in runOf defaultChoice (shapeOf (a .header)) (a .header .steps) (a .header .width) (a .header .height) (now (a .first)) (now (a .second))
 
 run-is : (c : tie.After-run) → (c .run .result ≡ ran c .outcome) × ((c .run .last .1 .1 .1 .1 .0 ≡ ran c .first) × (c .run .last .1 .1 .1 .1 .1 .0 ≡ ran c .second))
 run-is c =
@@ -51,7 +52,7 @@ accepted : (c : tie.After-shown) → firstRefusal (jobChecks (start-of (run-of c
 accepted c = sym (outcome-is (run-of c)) ∙ c .before .before .before .enum-told .given .1
 
 pixels-are : (c : tie.After-shown) → let a = start-of (run-of c) .args in
-    now (c .shown .result) ≡ shownAfter (shapeOf (a .header)) (a .header .steps) (a .header .width) (a .header .height) (now (a .first)) (now (a .second))
+    now (c .shown .result) ≡ shownAfter defaultChoice (shapeOf (a .header)) (a .header .steps) (a .header .width) (a .header .height) (now (a .first)) (now (a .second))
 pixels-are c =
     let r = run-of c in
     let s = start-of r in

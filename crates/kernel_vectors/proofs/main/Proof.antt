@@ -44,6 +44,9 @@ around-requires-3 c κs = search needs
 print-kernel-requires : tie.Need-print-kernel-requires Inv-loop μ-loop
 print-kernel-requires c κs = search needs
 
+print-kernel-requires-2 : tie.Need-print-kernel-requires-2 Inv-loop μ-loop
+print-kernel-requires-2 c κs = search needs
+
 add-i : tie.Need-add-i Inv-loop μ-loop
 add-i c = search needs
 
@@ -73,6 +76,7 @@ main-spec =
     around-requires-2
     around-requires-3
     print-kernel-requires
+    print-kernel-requires-2
     add-i
     loop-less
     loop-again

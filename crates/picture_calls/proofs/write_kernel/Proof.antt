@@ -7,6 +7,7 @@ use borrow.Author.Tests.{ne-eqb}
 use Rattle.limits.specs.Limits.{stepsInRange}
 use Rattle.covariance.proofs.Answers as answers
 use Rattle.limits.proofs.Checks.{failed, passed}
+use Rattle.kernel.specs.Choice.{choiceOf}
 use Rattle.picture_calls.specs.Pictures.{kernelCode, kernelAfter}
 use Rattle.picture_calls.proofs.Laws.{kernel-refused, kernel-code, kernel-after}
 use borrow.Author.Needs.{needs}
@@ -50,8 +51,11 @@ returns-2 c =
     let p = shape-fine (c .before .before .before .before) in
     rw (p .variances, p .direction, steps-fine (c .before .before), ne-eqb _ _ (c .before .if2 .taken)) (c .error-number2 .ensures, refl)
 
-kernel-of-shape-requires : tie.Need-kernel-of-shape-requires
-kernel-of-shape-requires c κs = search needs
+choice-of-requires : tie.Need-choice-of-requires
+choice-of-requires c κs = search needs
+
+kernel-of-shape-by-requires : tie.Need-kernel-of-shape-by-requires
+kernel-of-shape-by-requires c κs = search needs
 
 write-answer-requires : tie.Need-write-answer-requires
 write-answer-requires c κs = search needs
@@ -68,12 +72,18 @@ same-length c = search needs
 returns-3 : tie.Need-returns-3
 returns-3 c =
     let made = c .before .before .before .before in
-    let a = made .before .before .before .before .before .before .before .before .args in
-    let p = shape-fine (made .before .before .before .before) in
-    let steps = steps-fine (made .before .before) in
+    let named = made .before in
+    let a = named .before .before .before .before .before .before .before .before .args in
+    let p = shape-fine (named .before .before .before .before) in
+    let steps = steps-fine (named .before .before) in
+    let choice = choiceOf (a .choice) in
     let wrote = c .before .before .write-answer .ensures in (
-      wrote .0 ∙ rw (made .kernel-of-shape .ensures) (kernel-code (a .shape) (a .steps) (a .words .now) (p .variances) (p .direction) steps (made .before .if2 .left)),
-      wrote .1 ∙ rw (made .kernel-of-shape .ensures) (kernel-after (a .shape) (a .steps) (a .words .now) (p .variances) (p .direction) steps (made .before .if2 .left)),
+      wrote .0
+          ∙ rw (made .kernel-of-shape-by .ensures, named .choice-of .ensures)
+          (kernel-code (a .shape) (a .steps) (a .words .now) (p .variances) (p .direction) steps (named .before .if2 .left) choice),
+      wrote .1
+          ∙ rw (made .kernel-of-shape-by .ensures, named .choice-of .ensures)
+          (kernel-after (a .shape) (a .steps) (a .words .now) (p .variances) (p .direction) steps (named .before .if2 .left) choice),
     )
 
 returns-4 : tie.Need-returns-4
@@ -96,7 +106,8 @@ write-kernel-spec =
     returns
     error-number-requires-2
     returns-2
-    kernel-of-shape-requires
+    choice-of-requires
+    kernel-of-shape-by-requires
     write-answer-requires
     enum-known-code
     error-number-requires-3

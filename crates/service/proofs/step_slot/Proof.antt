@@ -6,6 +6,7 @@ use borrow.Author.Tests.{leb-true}
 use Rattle.limits.specs.Limits.{longestSide, bufferPixels, sideInRange}
 use Rattle.limits.proofs.Laws.{both-true, in-range}
 use Rattle.kernel.specs.declared.KernelAnswer.{KernelAnswer}
+use Rattle.kernel.specs.declared.Choice.the-variants.{Smallest}
 use Rattle.kernel.specs.Answer.{kernelAnswer}
 use Rattle.kernel.proofs.Answers.{present}
 use Rattle.kernel.proofs.Theorems.{sound}
@@ -15,8 +16,8 @@ use borrow.Author.Needs.{needs}
 use Rattle.service.proofs.step_slot.Statement.{statement}
 use Rattle.service.proofs.step_slot.Tie as tie
 
-kernel-of-requires : tie.Need-kernel-of-requires
-kernel-of-requires c κs = search needs
+kernel-by-requires : tie.Need-kernel-by-requires
+kernel-by-requires c κs = search needs
 
 sub-done : tie.Need-sub-done
 sub-done c = search needs
@@ -40,15 +41,15 @@ cast-step-between-2 : tie.Need-cast-step-between-2
 cast-step-between-2 c = search needs
 
 -- the kernel is the slot's
-kernel-is : (c : tie.After-kernel-of) → c .kernel-of .result .kernel ≡ kernelOfSlot (c .before .before .before .before .before .args .slot)
+kernel-is : (c : tie.After-kernel-by) → c .kernel-by .result .kernel ≡ kernelOfSlot (c .before .before .before .before .before .args .slot)
 kernel-is c =
     let s = c .before .before .before .before .before in
     let slot = s .args .slot in
     let told = c .before .before .before .struct-told .given in
     let f = s .pre .filled in
-    let answered : c .kernel-of .result ≡ kernelAnswer (slot .xx) (slot .xy) (slot .yy) (slot .steps) =
-    c .kernel-of .ensures ∙ rw (passed-on (slot .xx) (search told), passed-on (slot .xy) (search told), passed-on (slot .yy) (search told)) in
-    ap (λ (r : KernelAnswer). r .kernel) (answered ∙ present (slot .xx) (slot .xy) (slot .yy) (slot .steps) (f .steps) (f .kernel))
+    let answered : c .kernel-by .result ≡ kernelAnswer Smallest (slot .xx) (slot .xy) (slot .yy) (slot .steps) =
+    c .kernel-by .ensures ∙ rw (passed-on (slot .xx) (search told), passed-on (slot .xy) (search told), passed-on (slot .yy) (search told)) in
+    ap (λ (r : KernelAnswer). r .kernel) (answered ∙ present Smallest (slot .xx) (slot .xy) (slot .yy) (slot .steps) (f .steps) (f .kernel))
 
 step-between-requires : tie.Need-step-between-requires
 step-between-requires c κs =
@@ -78,7 +79,7 @@ pub step-slot-spec : {M : Type 1} → statement M
 step-slot-spec =
     tie.close
     (tie.spec
-    kernel-of-requires
+    kernel-by-requires
     sub-done
     cast-done
     buffer-after-requires

@@ -2,6 +2,7 @@
 -- before it. Assumes nothing.
 use mathlib.Core.Path.{_≡_, sym, _∙_}
 use mir.Syntax.{w32}
+use mir.Val.{SFits}
 use mir.ValLaws.{toZ-ofZ}
 use borrow.Author.Needs.{needs}
 use Rattle.limits.specs.Errors.{firstRefusal}
@@ -24,8 +25,8 @@ checked-requires c κs = search needs
 enum-told : tie.Need-enum-told
 enum-told c = search needs
 
-kernel-of-requires : tie.Need-kernel-of-requires
-kernel-of-requires c κs = search needs
+kernel-by-requires : tie.Need-kernel-by-requires
+kernel-by-requires c κs = search needs
 
 enum-known-code : tie.Need-enum-known-code
 enum-known-code c = search needs
@@ -46,6 +47,10 @@ shape-fine c =
     let v = c .xx .given .0 in
     passed (c .before .before .before .args .shape) (v .0) (v .1 .0) (v .1 .1 .0) (sym (c .before .before .covariance-of .ensures) ∙ c .xx .given .1)
 
+-- its three numbers fit 32 bits
+numbers-fit : (c : tie.After-known-told) → let v = c .before .xx .given .0 in SFits w32 (v .0) × (SFits w32 (v .1 .0) × SFits w32 (v .1 .1 .0))
+numbers-fit c = (search needs, (search needs, search needs))
+
 -- the pictures passed, so the kernel call answers what the run's checks come to
 returns : tie.Need-returns
 returns c =
@@ -55,9 +60,10 @@ returns c =
     let v = shape .xx .given .0 in
     let fine : firstRefusal (pictureChecks (a .steps) (a .width) (a .height) (a .first) (a .second)) ≡ Accepted =
     sym (told .before .before .checked .ensures) ∙ told .enum-told .given .1 in
-    c .kernel-of .ensures
-    ∙ rw (toZ-ofZ w32 (v .0) (search needs), toZ-ofZ w32 (v .1 .0) (search needs), toZ-ofZ w32 (v .1 .1 .0) (search needs))
-    (kernel-decides (a .shape) (a .steps) (a .width) (a .height) (a .first) (a .second) (v .0) (v .1 .0) (v .1 .1 .0) (shape-fine shape) fine)
+    let fit = numbers-fit (told .before .before .before) in
+    c .kernel-by .ensures
+    ∙ rw (toZ-ofZ w32 (v .0) (fit .0), toZ-ofZ w32 (v .1 .0) (fit .1 .0), toZ-ofZ w32 (v .1 .1 .0) (fit .1 .1))
+    (kernel-decides (a .shape) (a .steps) (a .width) (a .height) (a .first) (a .second) (v .0) (v .1 .0) (v .1 .1 .0) (shape-fine shape) (a .choice) fine)
 
 returns-2 : tie.Need-returns-2
 returns-2 c =
@@ -87,7 +93,7 @@ run-kernel-spec =
     enum-known-xx
     checked-requires
     enum-told
-    kernel-of-requires
+    kernel-by-requires
     enum-known-code
     refused-requires
     enum-known-code-2

@@ -1,4 +1,4 @@
--- `kernel::kernel_of` meets its contract: the step count is tested first, and the signs are taken off each number as it came
+-- `kernel::kernel_by` meets its contract: the step count is tested first, and the signs are taken off each number as it came
 -- in. Assumes nothing.
 use mathlib.Core.Path.{_≡_, sym, ap, _∙_}
 use mathlib.Core.Bool.{false}
@@ -7,8 +7,8 @@ use mir.ValLaws.{toZ-ofZ}
 use Rattle.limits.specs.Limits.{stepsInRange}
 use Rattle.kernel.specs.Answer.{magnitudeOf}
 use borrow.Author.Needs.{needs}
-use Rattle.kernel.proofs.kernel_of.Statement.{statement}
-use Rattle.kernel.proofs.kernel_of.Tie as tie
+use Rattle.kernel.proofs.kernel_by.Statement.{statement}
+use Rattle.kernel.proofs.kernel_by.Tie as tie
 
 steps-in-range-requires : tie.Need-steps-in-range-requires
 steps-in-range-requires c κs = search needs
@@ -42,8 +42,8 @@ returns-2 c =
     let e : stepsInRange (c .before .before .before .args .steps) ≡ false = sym (c .before .before .steps-in-range .ensures) ∙ c .before .if1 .left in
     c .refused .ensures ∙ rw e
 
-pub kernel-of-spec : {M : Type 1} → statement M
-kernel-of-spec =
+pub kernel-by-spec : {M : Type 1} → statement M
+kernel-by-spec =
     tie.close
     (tie.spec
     steps-in-range-requires

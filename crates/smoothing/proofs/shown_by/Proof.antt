@@ -1,4 +1,4 @@
--- `smoothing::shown` meets its contract: where the checks pass, each picture has w × h pixels, and the parity of the steps says
+-- `smoothing::shown_by` meets its contract: where the checks pass, each picture has w × h pixels, and the parity of the steps says
 -- which is shown; else no pixel is. Assumes nothing.
 use mathlib.Core.Path.{_≡_, sym, ap, _∙_}
 use native.Mathlib.Omega.{arith}
@@ -9,13 +9,13 @@ use Rattle.limits.specs.Errors.{firstRefusal}
 use Rattle.limits.specs.declared.Outcome.{Outcome}
 use Rattle.limits.specs.declared.Outcome.the-variants.{Accepted}
 use Rattle.stepping.specs.Step.{PicturePair}
-use Rattle.covariance.specs.Shapes.{kernelOfShape}
+use Rattle.covariance.specs.Shapes.{kernelOfShapeBy}
 use Rattle.smoothing.specs.Runs.{runChecks}
 use Rattle.smoothing.specs.Shown.{shownOf}
 use Rattle.smoothing.proofs.Steps.{even, odd}
 use Rattle.smoothing.proofs.Runs.{fills-pair, same-outcome}
-use Rattle.smoothing.proofs.shown.Statement.{statement}
-use Rattle.smoothing.proofs.shown.Tie as tie
+use Rattle.smoothing.proofs.shown_by.Statement.{statement}
+use Rattle.smoothing.proofs.shown_by.Tie as tie
 
 run-kernel-requires : tie.Need-run-kernel-requires
 run-kernel-requires c κs = search needs
@@ -35,7 +35,7 @@ outcome s =
 outcome-is : (c : tie.After-run-kernel) → c .run-kernel .result .outcome ≡ outcome (c .before .before .before)
 outcome-is c =
     let s = c .before .before .before in
-    ap (λ answer. answer .outcome) (c .run-kernel .ensures) ∙ same-outcome (kernelOfShape (s .args .shape) (s .args .steps)) (s .args .steps) (outcome s)
+    ap (λ answer. answer .outcome) (c .run-kernel .ensures) ∙ same-outcome (kernelOfShapeBy (s .args .choice) (s .args .shape) (s .args .steps)) (s .args .steps) (outcome s)
 
 -- the checks passed ..
 fine : (c : tie.After-area) → outcome (c .before .before .before .before .before .before) ≡ Accepted
@@ -76,8 +76,8 @@ returns-3 : tie.Need-returns-3
 unfolding shownOf
 returns-3 c = rw (← outcome-is (c .before .before .before), c .before .enum-told2 .given .1)
 
-pub shown-spec : {M : Type 1} → statement M
-shown-spec =
+pub shown-by-spec : {M : Type 1} → statement M
+shown-by-spec =
     tie.close
     (tie.spec
     run-kernel-requires
