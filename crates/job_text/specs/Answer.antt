@@ -39,7 +39,7 @@ jobChecks h =
     ∷ (kernelExists (h .xx) (h .xy) (h .yy) (unitsOf (h .steps)) otherwise NoKernel)
     ∷ []
 
--- document 02, S-2: "the bench program, get the new one"
+-- document 02, S-2: "a caller of a direct run who names none, and the bench program, get the new one"
 abbrev pub jobKernel : Header → Kernel
 jobKernel h = kernelBy defaultChoice (h .xx) (h .xy) (h .yy) (h .steps)
 

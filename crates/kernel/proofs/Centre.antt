@@ -7,7 +7,7 @@ use mathlib.Core.Bool.{Bool, true, false, cond}
 use mathlib.Core.Logic.{_↔_}
 use mathlib.Core.List.{List, [], _∷_}
 use Prim.Native.Nat.{ℕ, _+_, _-_, _*_, _/_, _≤_, _<_, min, max}
-use native.Mathlib.Nat.{add-comm, mul-comm, mul-zero, le-of-mul-le-mul-left, le-trans, le-of-eq}
+use native.Mathlib.Nat.{add-comm, mul-comm, mul-zero, le-of-mul-le-mul-left, le-trans, le-of-eq, le-max-right, max-le, min-le-left, min-eq-left}
 use native.Mathlib.Omega.{arith}
 use borrow.Author.Tests.{ltb-true, ltb-false}
 use lib.Dec.{T, leb, ltb}
@@ -26,12 +26,6 @@ use Rattle.kernel.proofs.Plain.{choose, choose-smaller, boundOf, freeOf
 use Rattle.kernel.proofs.Theorems.{is-le, le-is, xx-of, yy-of, equation, with-weights, lift-by}
 
 -- ---- the bound of S-2 in sums alone
-parts-of-max : (x y n : ℕ) → max x y ≤ n → (x ≤ n) × (y ≤ n)
-parts-of-max x y n h = (omega arith, omega arith)
-
-max-of-parts : (x y n : ℕ) → x ≤ n → y ≤ n → max x y ≤ n
-max-of-parts x y n g h = omega arith
-
 half-to : (t n : ℕ) → (t + 1) / 2 ≤ n → t ≤ 2 * n
 half-to t n h = omega arith
 
@@ -51,12 +45,6 @@ side-from a b m n h = omega arith
 side-to : (a b m n : ℕ) → n ≤ a → a + b ≤ m + n → 2 * (2 * (a - n)) ≤ 4 * (m + n - (a + b)) → 2 * a + b ≤ m + 2 * n
 side-to a b m n g l h = omega arith
 
-min-le : (x y : ℕ) → min x y ≤ x
-min-le x y = omega arith
-
-min-first : (x y : ℕ) → x ≤ y → min x y ≡ x
-min-first x y h = omega arith
-
 -- ---- the ratio of two, for any free number between the bounds
 module _ (a : ℕ) (xy : ℤ) (b n k : ℕ) (h : Between a (natAbs xy) b n (unitsOf k)) where
   swapped : 4 * (unitsOf k + n - (b + a)) ≡ 4 * (unitsOf k + n - (a + b))
@@ -64,7 +52,7 @@ module _ (a : ℕ) (xy : ℤ) (b n k : ℕ) (h : Between a (natAbs xy) b n (unit
 
   ratio-from : boundOf (natAbs xy) a b (unitsOf k) ≤ n → RatioOfTwo (kernelWith (pos a) xy (pos b) (pos n) k)
   ratio-from l =
-      let half = parts-of-max (max (natAbs xy) (a + b - unitsOf k)) ((a + b + max a b - unitsOf k + 1) / 2) n l .1 in
+      let half = le-trans (le-max-right (max (natAbs xy) (a + b - unitsOf k)) ((a + b + max a b - unitsOf k + 1) / 2)) l in
       let three = three-to a b (unitsOf k) n (half-to (a + b + max a b - unitsOf k) n half) in
       record {
         beside = rw (with-weights a xy b n k h) (side-from a b (unitsOf k) n (three .0));
@@ -78,9 +66,7 @@ module _ (a : ℕ) (xy : ℤ) (b n k : ℕ) (h : Between a (natAbs xy) b n (unit
       side-to b a (unitsOf k) n (h .down) (rw (add-comm b a) (h .steps))
       (subst (λ c. 2 * (2 * (b - n)) ≤ c) (sym swapped) (rw (with-weights a xy b n k h) at (r .above))) in
       let three = three-from a b (unitsOf k) n beside (rw (add-comm a (2 * b)) above) in
-      max-of-parts (max (natAbs xy) (a + b - unitsOf k)) ((a + b + max a b - unitsOf k + 1) / 2) n
-      (max-of-parts (natAbs xy) (a + b - unitsOf k) n (h .leans) (omega (arith, h .steps)))
-      (half-from (a + b + max a b - unitsOf k) n three)
+      max-le (max-le (h .leans) (omega (arith, h .steps))) (half-from (a + b + max a b - unitsOf k) n three)
 
   -- it holds exactly from the bound of S-2 on
   pub ratio-exactly : RatioOfTwo (kernelWith (pos a) xy (pos b) (pos n) k) ↔ (binomialBound (pos a) xy (pos b) (unitsOf k) ≤ℤ pos n)
@@ -93,7 +79,7 @@ module _ (a : ℕ) (xy : ℤ) (b n k : ℕ) (h : Between a (natAbs xy) b n (unit
   pub smallest-with-ratio : RatioOfTwo (kernelWith (pos a) xy (pos b) (pos n) k) → freeNumberBy Binomial (pos a) xy (pos b) (unitsOf k) ≤ℤ pos n
   smallest-with-ratio r =
       subst (λ f. f ≤ℤ pos n) (sym (free-by Binomial a xy b (unitsOf k)))
-      (is-le (le-trans (min-le (boundOf (natAbs xy) a b (unitsOf k)) (min a b)) (ratio-needs r)))
+      (is-le (le-trans (min-le-left (boundOf (natAbs xy) a b (unitsOf k)) (min a b)) (ratio-needs r)))
 
 -- ---- S-2's kernel
 -- wherever its free number is not held down to the smaller variance, the centre weighs at least twice as much as each side
@@ -108,30 +94,23 @@ uncapped-ratio xx xy yy k e =
     law a xy b h l =
         let below : boundOf (natAbs xy) a b (unitsOf k) ≤ min a b =
         le-is (rw (bound a xy b (unitsOf k), choose-smaller a b) at l) in
-        ratio-from a xy b (freeOf Binomial (natAbs xy) a b (unitsOf k)) k h (le-of-eq (sym (min-first (boundOf (natAbs xy) a b (unitsOf k)) (min a b) below)))
+        ratio-from a xy b (freeOf Binomial (natAbs xy) a b (unitsOf k)) k h (le-of-eq (sym (min-eq-left below)))
 
 -- where the centre is 0, f is xx + yy − M. Below the smaller variance that is less than the third number of S-2, so it is the
 -- smaller variance itself
 at-least-half : (low t top : ℕ) → min (max low ((t + 1) / 2)) top < top → t ≤ 2 * min (max low ((t + 1) / 2)) top
 at-least-half low t top h = omega arith
 
-none-in-middle : (a b m n : ℕ) → n ≤ a → n ≤ b → max a b ≡ m → 4 * (m + n - (a + b)) ≡ 0
-none-in-middle a b m n g h e = omega arith
+hollow-where-full : (a b m n : ℕ) → n ≤ a → n ≤ b → max a b ≡ m → 4 * (m + n - (a + b)) ≡ 0
+hollow-where-full a b m n g h e = omega arith
 
-sums : (a b m n : ℕ) → n ≤ a → n ≤ b → a + b ≤ m + n → (n < min a b → a + b + max a b - m ≤ 2 * n) → 4 * (m + n - (a + b)) ≡ 0 → max a b ≡ m
-sums a b m n g h l half z = go (ltb n (min a b)) refl
+full-where-hollow : (a b m n : ℕ) → n ≤ a → n ≤ b → a + b ≤ m + n → (n < min a b → a + b + max a b - m ≤ 2 * n) → 4 * (m + n - (a + b)) ≡ 0
+    → max a b ≡ m
+full-where-hollow a b m n g h l half z = go (ltb n (min a b)) refl
   where
     go : (t : Bool) → ltb n (min a b) ≡ t → max a b ≡ m
     go true e = let three = three-to a b m n (half (ltb-true n (min a b) e)) in let under = ltb-true n (min a b) e in omega arith
     go false e = let over = ltb-false n (min a b) e in omega arith
-
-only-whole : (a c b m : ℕ) → Between a c b (freeOf Binomial c a b m) m → 4 * (m + freeOf Binomial c a b m - (a + b)) ≡ 0 → max a b ≡ m
-only-whole a c b m h z =
-    sums a b m (freeOf Binomial c a b m) (h .across) (h .down) (h .steps)
-    (at-least-half (max c (a + b - m)) (a + b + max a b - m) (min a b)) z
-
-whole-only : (a c b m : ℕ) → Between a c b (freeOf Binomial c a b m) m → max a b ≡ m → 4 * (m + freeOf Binomial c a b m - (a + b)) ≡ 0
-whole-only a c b m h e = none-in-middle a b m (freeOf Binomial c a b m) (h .across) (h .down) e
 
 -- the centre is 0 exactly where the larger variance is M: a whole square pixel in a step, so that no weight may stay in the middle
 pub hollow-exactly : (xx xy yy : ℤ) (k : ℕ) → kernelExists xx xy yy (unitsOf k) ≡ true
@@ -142,9 +121,12 @@ hollow-exactly xx xy yy k e =
     law : (a : ℕ) (xy : ℤ) (b : ℕ) (h : Between a (natAbs xy) b (freeOf Binomial (natAbs xy) a b (unitsOf k)) (unitsOf k))
         → (centreOf (kernelWith (pos a) xy (pos b) (pos (freeOf Binomial (natAbs xy) a b (unitsOf k))) k) ≡ 0) ↔ (larger (pos a) (pos b) ≡ pos (unitsOf k))
     law a xy b h =
-        let w = with-weights a xy b (freeOf Binomial (natAbs xy) a b (unitsOf k)) k h in (
-          λ z. choose a b ∙ ap pos (only-whole a (natAbs xy) b (unitsOf k) h (rw w at z)),
-          λ z. rw w (whole-only a (natAbs xy) b (unitsOf k) h (ap natAbs (sym (choose a b) ∙ z))),
+        let m = unitsOf k in
+        let n = freeOf Binomial (natAbs xy) a b m in
+        let w = with-weights a xy b n k h in
+        let half = at-least-half (max (natAbs xy) (a + b - m)) (a + b + max a b - m) (min a b) in (
+          λ z. choose a b ∙ ap pos (full-where-hollow a b m n (h .across) (h .down) (h .steps) half (rw w at z)),
+          λ z. rw w (hollow-where-full a b m n (h .across) (h .down) (ap natAbs (sym (choose a b) ∙ z))),
         )
 
 -- ---- nine weights in the wide sense

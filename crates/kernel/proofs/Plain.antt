@@ -3,7 +3,7 @@ use mathlib.Core.Path.{_≡_, refl, ap, ap₂, _∙_}
 use mathlib.Core.Bool.{Bool, true, false, not, cond, true≢false}
 use mathlib.Core.List.{List, [], _∷_, map}
 use Prim.Native.Nat.{ℕ, zero, suc, _+_, _-_, _*_, _/_, _≤_, _<_, min, max}
-use native.Mathlib.Nat.{le-refl}
+use native.Mathlib.Nat.{le-refl, le-min, le-max-left, min-le-right}
 use native.Mathlib.Omega.{arith}
 use lib.Dec.{T, leb, leb→le, nleb→lt}
 use lib.IntN.{ℤ, pos, negsuc, negℤ, natAbs, _+ℤ_, _-ℤ_}
@@ -121,14 +121,11 @@ pub record Between (a c b n m : ℕ) : Type 0 where
 pub between-from : (a c b m n : ℕ) → max c (a + b - m) ≤ n → n ≤ min a b → Between a c b n m
 between-from a c b m n low high = record { leans = omega arith; steps = omega arith; across = omega arith; down = omega arith }
 
-held : (low half top : ℕ) → low ≤ top → (low ≤ min (max low half) top) × (min (max low half) top ≤ top)
-held low half top h = (omega arith, omega arith)
-
 -- the free number of each choice stands between the bounds wherever some number does
 pub between-by : (choice : Choice) (a c b m : ℕ) → max c (a + b - m) ≤ min a b → Between a c b (freeOf choice c a b m) m
 between-by Binomial a c b m h =
-    let g = held (max c (a + b - m)) ((a + b + max a b - m + 1) / 2) (min a b) h in
-    between-from a c b m (freeOf Binomial c a b m) (g .0) (g .1)
+    between-from a c b m (freeOf Binomial c a b m)
+    (le-min (le-max-left (max c (a + b - m)) ((a + b + max a b - m + 1) / 2)) h) (min-le-right (boundOf c a b m) (min a b))
 between-by Smallest a c b m h = between-from a c b m (freeOf Smallest c a b m) (le-refl (max c (a + b - m))) h
 
 pub plus-le : (z : ℤ) → plus z ≤ natAbs z

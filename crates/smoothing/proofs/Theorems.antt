@@ -1,7 +1,8 @@
--- The theorems on runs, by each choice. They join the contracts of `run` and `shown`, which are equations with `runOf` and
--- `shownOf`: the run answers the first refusal that applies, and then nothing has changed; refusal 11 is answered exactly where no kernel exists;
--- after an accepted run the reader is shown step k, each pixel of it within k / 2 of the exact run; what the second picture held
--- counts for nothing; and an empty part is shown exactly where the run with the same arguments is refused. Assumes nothing.
+-- The theorems on runs, by each choice. They join the contracts of `run_by` and `shown_by`, which are equations with `runOf` and
+-- `shownOf`: the run answers the first refusal that applies, and then nothing has changed; refusal 11 is answered exactly where no
+-- kernel exists; after an accepted run the reader is shown step k, each pixel of it within k / 2 of the exact run; what the second
+-- picture held counts for nothing; and an empty part is shown exactly where the run with the same arguments is refused. Assumes
+-- nothing.
 use mathlib.Core.Path.{_≡_, refl, sym, ap, _∙_}
 use mathlib.Core.Bool.{Bool, true, false, cond}
 use mathlib.Core.Logic.{_↔_}
