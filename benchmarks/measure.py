@@ -1,6 +1,7 @@
 """Compares and times what benchmarks/run.sh has built: the folder with the shared libraries, and the bench program."""
 
 import ctypes
+import os
 import platform
 import random
 import statistics
@@ -23,9 +24,23 @@ CHOICES = {BINOMIAL: "no choice named", SMALLEST: "the choice \"smallest\""}
 FORMS = [
     ("proved", "vector", "proved", "the proved run"),
     ("indexed", "vector", "indexed", "C, five multiplications, by index, gcc -O3"),
-    ("buffered", "vector", "buffered", "C, five multiplications, through line buffers, gcc -O3"),
+    ("buffered", "vector", "buffered", "C, the same products, through line buffers, gcc -O3"),
     ("indexed, scalar", "scalar", "indexed", "the same by index, -fno-tree-vectorize"),
     ("plain", "vector", "plain", "plain C, nine multiplications and a division, gcc -O3"),
+]
+# Kernels of each kind: shape, steps, choice, and how many products a pixel needs.
+KINDS = [
+    ("all five weights", (9001, 2001, 7001), 4, BINOMIAL, 5),
+    ("centre twice a side", (9000, 2001, 7000), 4, BINOMIAL, 4),
+    ("one diagonal 0", (9000, 2001, 7000), 16, BINOMIAL, 4),
+    ("the other diagonal 0", (9000, -2001, 7000), 16, SMALLEST, 4),
+    ("centre 0", (9000, 500, 8000), 4, SMALLEST, 4),
+    ("equal diagonals (xy 0)", (9001, 0, 7001), 4, BINOMIAL, 4),
+    ("equal diagonals, centre twice a side", (9000, 0, 7000), 4, BINOMIAL, 3),
+    ("equal diagonals, equal sides (Round)", (8191, 0, 8191), 4, BINOMIAL, 3),
+    ("Round, centre twice a side", (8192, 0, 8192), 4, BINOMIAL, 2),
+    ("both diagonals 0", (9000, 0, 7000), 16, BINOMIAL, 3),
+    ("both diagonals 0, equal sides (Round)", (8192, 0, 8192), 16, BINOMIAL, 2),
 ]
 
 
@@ -68,9 +83,24 @@ def weights_of(shape, steps, choice=BINOMIAL):
     return [a, d, b, c, 4 * (m - xx - yy + f), c, b, d, a]
 
 
+def products(weights):
+    """How many products the proved step makes for a pixel: equal diagonals are added first, then equal sides too, and a centre of twice
+    a side is added to it twice."""
+    diagonal, down, across, along, centre = weights[:5]
+    corners = [diagonal] if diagonal == across else [diagonal, across]
+    sides = [down] if down == along and diagonal == across else [down, along]
+    joined = (diagonal != 0 and across != 0) and centre in (2 * down, 2 * along)
+    return sum(weight != 0 for weight in corners + sides + [centre]) - (1 if joined and centre != 0 else 0)
+
+
 def compare(runs):
-    """Every form gives the definition's image, for random shapes, sides and pixels and by both choices."""
+    """Every form gives the definition's image, for random shapes, sides and pixels and by both choices, and for kernels of each kind."""
     pixels = numpy.random.default_rng(1)
+    for title, shape, steps, choice, count in KINDS:
+        if products(weights_of(shape, steps, choice)) != count:
+            sys.exit(f"{title} is said to need {count} products: {weights_of(shape, steps, choice)}")
+        for height, width in ((1, 1), (7, 5), (33, 31), (40, 97)):
+            compare_one(runs, shape, steps, pixels.integers(0, 65536, (height, width), dtype=numpy.uint16), choice)
     random.seed(1)
     tried = 0
     while tried < 200:
@@ -148,6 +178,31 @@ def smoothing(runs, width, height, steps, repeats):
     return fastest, ratio_to(times, "filter2D", "proved") if cv2 is not None else None
 
 
+def kinds(runs, width, height, repeats):
+    """Kernels of each kind beside the first, and beside another version of the library where there is one."""
+    source = numpy.random.default_rng(4).integers(0, 65536, (height, width), dtype=numpy.uint16)
+    other = numpy.zeros_like(source)
+    calls = {}
+    for title, shape, steps, choice, _ in KINDS:
+        for name in ("proved", "other"):
+            if name in runs:
+                calls[name, title] = lambda run=runs[name], shape=shape, steps=steps, choice=choice: run(
+                    shape, steps, source, other, max(repeats // steps, 1), choice)
+    times = measure(calls)
+    slowest = []
+    for title, shape, steps, choice, count in KINDS:
+        work = width * height * steps * max(repeats // steps, 1)
+        first = width * height * KINDS[0][2] * max(repeats // KINDS[0][2], 1)
+        note = f"{count} products"
+        if "other" in runs:
+            gain = ratio_to(times, ("other", title), ("proved", title))
+            slowest.append(gain)
+            note += f"; the other version takes {gain:.2f} times as long"
+        ratio = statistics.median(t / work / (b / first) for t, b in zip(times["proved", title], times["proved", KINDS[0][0]]))
+        row(f"{width} × {height}: {title}", statistics.median(times["proved", title]) / work, "ns a pixel and step", ratio, note)
+    return min(slowest, default=None)
+
+
 def kernels(library):
     """Kernels alone, by each choice: all that differs between the two before the pixels."""
     library.kernels.argtypes = [ctypes.c_uint32, ctypes.c_void_p, ctypes.c_uint32, ctypes.c_size_t]
@@ -158,32 +213,41 @@ def kernels(library):
         row(f"a kernel, {title}", statistics.median(times[choice]) / repeats, "ns a kernel", ratio_to(times, choice, BINOMIAL))
 
 
-def service(library, proved):
-    """Ticks of full-size jobs beside the bare step, which is a step of a run of 64 by the service's choice."""
-    fill, ticks = library.fill, library.ticks
-    fill.argtypes = [ctypes.c_uint32, ctypes.c_void_p] + [ctypes.c_uint32] * 3 + [ctypes.c_void_p]
+def tick_time(library, jobs, image):
+    """Nanoseconds a tick, of so many full-size jobs, with their submits outside."""
+    library.fill.argtypes = [ctypes.c_uint32, ctypes.c_void_p] + [ctypes.c_uint32] * 3 + [ctypes.c_void_p]
+    if library.fill(jobs, shape_argument(SHAPE), 64, 32, 32, image.ctypes.data) != 0:
+        sys.exit("a submit was refused")
+    began = time.clock_gettime_ns(time.CLOCK_PROCESS_CPUTIME_ID)
+    count = library.ticks()
+    spent = time.clock_gettime_ns(time.CLOCK_PROCESS_CPUTIME_ID) - began
+    if count != 64 * jobs:
+        sys.exit(f"{count} ticks of {jobs} jobs")
+    return spent / count
+
+
+def service(library, proved, older):
+    """Ticks of full-size jobs beside the bare step, which is a step of a run of 64 by the service's choice, and beside those of another
+    version of the library where there is one."""
     image = numpy.random.default_rng(3).integers(0, 65536, (32, 32), dtype=numpy.uint16)
     other = numpy.zeros_like(image)
     shares = {}
     for jobs in (1, 2, 4, 8):
-        spent, bare = [], []
+        spent, bare, before = [], [], []
         for _ in range(ROUNDS):
-            if fill(jobs, shape_argument(SHAPE), 64, 32, 32, image.ctypes.data) != 0:
-                sys.exit("a submit was refused")
+            spent.append(tick_time(library, jobs, image))
             began = time.clock_gettime_ns(time.CLOCK_PROCESS_CPUTIME_ID)
-            count = ticks()
-            middle = time.clock_gettime_ns(time.CLOCK_PROCESS_CPUTIME_ID)
             proved(SHAPE, 64, image, other, jobs, SMALLEST)
-            ended = time.clock_gettime_ns(time.CLOCK_PROCESS_CPUTIME_ID)
-            if count != 64 * jobs:
-                sys.exit(f"{count} ticks of {jobs} jobs")
-            spent.append((middle - began) / count)
-            bare.append((ended - middle) / count)
+            bare.append((time.clock_gettime_ns(time.CLOCK_PROCESS_CPUTIME_ID) - began) / (64 * jobs))
+            if older is not None:
+                before.append(tick_time(older, jobs, image))
         ratio = statistics.median(t / b for t, b in zip(spent, bare))
         shares[jobs] = 1 - 1 / ratio
         per_second = 1e9 / statistics.median(spent)
-        row(f"tick of a 32 × 32 job, {jobs} held (beside its bare step)", statistics.median(spent), "ns a tick", ratio,
-            f"{per_second:.0f} ticks a second, own share {100 * shares[jobs]:.1f} %")
+        note = f"{per_second:.0f} ticks a second, own share {100 * shares[jobs]:.1f} %"
+        if older is not None:
+            note += f"; the other version takes {statistics.median(b / t for b, t in zip(before, spent)):.2f} times as long"
+        row(f"tick of a 32 × 32 job, {jobs} held (beside its bare step)", statistics.median(spent), "ns a tick", ratio, note)
     return max(shares.values())
 
 
@@ -230,20 +294,28 @@ def main():
     folder, program = sys.argv[1:]
     runs = {name: runner(folder, library, function) for name, library, function, _ in FORMS}
     library = ctypes.CDLL(f"{folder}/vector.so")
-    compare(runs)
+    versions = {"proved": runs["proved"]}
+    older = None
+    if os.path.exists(f"{folder}/other.so"):
+        versions["other"] = runner(folder, "other", "proved")
+        older = ctypes.CDLL(f"{folder}/other.so")
+    compare(runs | versions)
     print(f"One run on {platform.machine()}, one thread, CPU time, medians of {ROUNDS} rounds; every form in turn in each round,")
     print("so that buffers are warm, and none is cleared between. A ratio is to the first row of its group.\n")
     print("| what | time | unit | ratio | |\n|---|---|---|---|---|")
     large = smoothing(runs, 1024, 1024, 4, 1)
     smoothing(runs, 32, 32, 16, 32)
     smoothing(runs, 1000, 3, 16, 8)
+    slowest = [kinds(versions, 1024, 1024, 4), kinds(versions, 32, 32, 512)]
     kernels(library)
-    share = service(library, runs["proved"])
+    share = service(library, runs["proved"], older)
     slow = texts(library, program)
     growth(runs["proved"])
     print(f"\nthe faster C at gcc -O3 takes {large[0]:.2f} times as long as the proved step (wanted: at least 1)")
     if large[1] is not None:
-        print(f"filter2D takes {large[1]:.2f} times as long as the proved step (wanted: at least 2)")
+        print(f"filter2D takes {large[1]:.2f} times as long as the proved step (wanted: at least 2.3)")
+    if older is not None:
+        print(f"no kernel takes the other version less than {slowest[0]:.2f} times as long at 1024 × 1024, and {slowest[1]:.2f} at 32 × 32")
     print(f"the service's own share of a tick is at most {100 * share:.1f} % (wanted: under 10)")
     print(f"a full-size text takes {slow:.1f} ms, start-up included (wanted: under 20)")
 

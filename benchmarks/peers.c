@@ -1,7 +1,7 @@
 /* What benchmarks/run.sh measures: calls of the proved library by the header, and the same smoothing in C in three forms. Each
  * function repeats its work, so that one call from the measuring program takes long enough to time. The kernel's nine weights
- * over their sum come from the library; opposite ones are equal, so that five multiplications serve, and the sum is
- * 8192 x (2 x steps), so that its division is a shift and a multiplication by a reciprocal of 32 binary places. */
+ * over their sum come from the library; opposite ones are equal, so that five multiplications serve, and fewer where weights are 0
+ * or equal; the sum is 8192 x (2 x steps), so that its division is a shift and a multiplication by a reciprocal of 32 binary places. */
 #include "vokhsaot.h"
 
 struct coefficients {
@@ -69,15 +69,59 @@ static void pad(const uint16_t *restrict row, uint32_t *restrict line, size_t wi
     line[width + 1] = row[width - 1];
 }
 
-static void smooth_row(const uint32_t *restrict up, const uint32_t *restrict mid, const uint32_t *restrict down,
-                       uint16_t *restrict out, size_t width, struct coefficients c)
+/* The products of a pixel, as the proved step sorts them: a constant 0 leaves one out. */
+struct products {
+    uint32_t diagonal, down, across, along, corners, sides, centre, centre_in_row, centre_in_column;
+};
+
+static inline __attribute__((always_inline)) void smooth_row_with(const uint32_t *restrict up, const uint32_t *restrict mid,
+                                                                  const uint32_t *restrict down, uint16_t *restrict out,
+                                                                  size_t width, struct coefficients c, struct products p)
 {
     for (size_t x = 0; x < width; x++) {
-        uint64_t total = (uint64_t)c.diagonal * (up[x] + down[x + 2]) + (uint64_t)c.down * (up[x + 1] + down[x + 1]) +
-                         (uint64_t)c.across * (up[x + 2] + down[x]) + (uint64_t)c.along * (mid[x] + mid[x + 2]) +
-                         (uint64_t)c.centre * mid[x + 1];
+        uint32_t falling = up[x] + down[x + 2], rising = up[x + 2] + down[x], column = up[x + 1] + down[x + 1];
+        uint32_t row = mid[x] + mid[x + 2] + p.centre_in_row * mid[x + 1];
+        uint64_t total = (uint64_t)p.diagonal * falling + (uint64_t)p.across * rising + (uint64_t)p.corners * (falling + rising) +
+                         (uint64_t)p.down * (column + p.centre_in_column * mid[x + 1]) + (uint64_t)p.along * row +
+                         (uint64_t)p.sides * (column + row) + (uint64_t)p.centre * mid[x + 1];
         out[x] = (uint64_t)(uint32_t)((total + c.half) / 8192) * c.reciprocal / 4294967296;
     }
+}
+
+static void smooth_row(const uint32_t *up, const uint32_t *mid, const uint32_t *down, uint16_t *out, size_t width,
+                       struct coefficients c)
+{
+#define BY(...) smooth_row_with(up, mid, down, out, width, c, (struct products){__VA_ARGS__})
+    int wide = c.centre == 2 * c.along, tall = c.centre == 2 * c.down;
+    if (c.diagonal == c.across && c.along == c.down) {
+        if (c.diagonal == 0)
+            BY(.sides = c.down, .centre = c.centre);
+        else if (wide)
+            BY(.corners = c.diagonal, .sides = c.down, .centre_in_row = 2);
+        else
+            BY(.corners = c.diagonal, .sides = c.down, .centre = c.centre);
+    } else if (c.diagonal == c.across) {
+        if (c.diagonal == 0)
+            BY(.down = c.down, .along = c.along, .centre = c.centre);
+        else if (wide)
+            BY(.corners = c.diagonal, .down = c.down, .along = c.along, .centre_in_row = 2);
+        else if (tall)
+            BY(.corners = c.diagonal, .down = c.down, .along = c.along, .centre_in_column = 2);
+        else
+            BY(.corners = c.diagonal, .down = c.down, .along = c.along, .centre = c.centre);
+    } else if (c.across == 0)
+        BY(.diagonal = c.diagonal, .down = c.down, .along = c.along, .centre = c.centre);
+    else if (c.diagonal == 0)
+        BY(.across = c.across, .down = c.down, .along = c.along, .centre = c.centre);
+    else if (c.centre == 0)
+        BY(.diagonal = c.diagonal, .down = c.down, .across = c.across, .along = c.along);
+    else if (wide)
+        BY(.diagonal = c.diagonal, .down = c.down, .across = c.across, .along = c.along, .centre_in_row = 2);
+    else if (tall)
+        BY(.diagonal = c.diagonal, .down = c.down, .across = c.across, .along = c.along, .centre_in_column = 2);
+    else
+        BY(.diagonal = c.diagonal, .down = c.down, .across = c.across, .along = c.along, .centre = c.centre);
+#undef BY
 }
 
 static void buffered_step(const uint16_t *source, uint16_t *target, size_t width, size_t height, const uint64_t *numbers)

@@ -1,5 +1,5 @@
 #!/usr/bin/env python3
-"""Twenty-one faults, one at a time, in a copy of the independent program: the comparison has to find each.
+"""Twenty-three faults, one at a time, in a copy of the independent program: the comparison has to find each.
 
 Usage: faults.py FOLDER, the folder that has libcapi.a. A fault counts as found where the test named beside it fails at a
 comparison, in one of the test files or in the sentences of demand 3; a fault that the copy finds in itself does not.
@@ -37,6 +37,13 @@ FAULTS = [
     ("a peak need not be as large as its diagonal neighbours", "extrema.rs", "*place != (x, y)", "place.0 == x || place.1 == y",
      "extrema"),
     ("a leading zero is taken", "job_text.rs", "[first, ..] => *first != b'0' && digits", "[_, ..] => digits", "texts"),
+    # Products that a kernel does not need, taken out where it needs them.
+    ("a centre of twice a side counts once", "smooth.rs", "                .map(|((dx, dy), weight)| {\n",
+     "                .map(|((dx, dy), mut weight)| {\n                    if (*dx, *dy) == (0, 0) && weight == 2 * kernel.weights[3] {\n"
+     "                        weight /= 2;\n                    }\n", "products"),
+    ("one of four equal corners is left out", "smooth.rs", "                .map(|((dx, dy), weight)| {\n",
+     "                .map(|((dx, dy), mut weight)| {\n                    if (*dx, *dy) == (1, -1) && weight == kernel.weights[0] {\n"
+     "                        weight = 0;\n                    }\n", "products"),
     # S-2's rule.
     ("the half is rounded down", "kernel.rs", "(twice + 1).div_euclid(2)", "twice.div_euclid(2)", "kernels"),
     ("where the half passes the smaller variance, the smallest f is taken", "kernel.rs", "smallest.max(half).min(xx.min(yy))",

@@ -76,6 +76,11 @@ pub fn step_between(
     ensures { λ _. ⌜ now (store .exit) ≡ put to (stepOf kernel width height (part from (width * height) (now (store .entry)))) (now (store .entry)) ⌝ }
 {
     let coefficients = row_core::coefficients_of(kernel);
-    let mut lines = stepping::blank_lines();
-    step_loaded(store, &mut lines, from, to, width, height, coefficients);
+    if stepping::line_room(width, height) <= stepping::SMALL_LINES {
+        let mut lines = stepping::blank_small_lines();
+        step_loaded(store, &mut lines, from, to, width, height, coefficients);
+    } else {
+        let mut lines = stepping::blank_lines();
+        step_loaded(store, &mut lines, from, to, width, height, coefficients);
+    }
 }

@@ -7,42 +7,70 @@ use native.Mathlib.Omega.{arith}
 use lib.ListN.{length, getD}
 use lib.Seq.{ext-getD}
 use Rattle.limits.specs.Limits.{largestPixel, mostSteps}
-use Rattle.kernel.specs.Offsets.{Offset, offsets, sumOver, weighted}
+use Rattle.kernel.specs.Offsets.{Offset, offsets, sumOver, total, weighted}
 use Rattle.kernel.specs.Molecule.{sumOf}
 use Rattle.kernel.specs.Sound.{Sound}
 use Rattle.kernel.specs.declared.Kernel.{Kernel}
 use Rattle.image.specs.Image.{entries}
-use Rattle.averaging.specs.Steps.{nearest}
 use Rattle.averaging.proofs.Images.{length-entries, entry}
 use Rattle.averaging.proofs.Averages.{average-at-most}
-use Rattle.row_core.specs.Prepared.{reciprocalOne, reciprocalOf, kernelOfCoefficients, Prepared, StandsFor}
-use Rattle.row_core.specs.Rows.{pixelIn, Pixels}
+use Rattle.row_core.specs.Prepared.{reciprocalOne, reciprocalOf, kernelOfCoefficients, Prepared, StandsFor, ProductsOf}
+use Rattle.row_core.specs.Rows.{doubled, pixelIn, Doubled}
 use Rattle.row_core.specs.declared.Coefficients.{Coefficients}
+use Rattle.row_core.specs.declared.Products.{Products}
 use Rattle.row_core.specs.declared.Column.{Column}
 use Rattle.row_core.proofs.Division.{divided, divided-below}
 
--- ---- a division by the sum of the weights
-module _ (c : Coefficients) (prepared : Prepared c) (total : ℕ) (most : total ≤ kernelOfCoefficients c .sum * largestPixel) where
-  bound : total + c .half < (largestPixel + 1) * sumOf (prepared .steps)
+-- ---- a division by twice the sum of the weights
+module _ (c : Coefficients) (prepared : Prepared c) (total : ℕ) (most : total ≤ kernelOfCoefficients c .sum * doubled largestPixel) where
+  bound : total < (largestPixel + 1) * (2 * sumOf (prepared .steps))
   bound = omega (arith, most, prepared .sound .sum, prepared .sound .low)
 
-  pub exact : (total + c .half) / (sumOf 1 / 2) * c .reciprocal / reciprocalOne ≡ nearest total (kernelOfCoefficients c .sum)
-  exact =
-      let half : 2 * c .half / 2 ≡ c .half = omega arith in
-      rw (prepared .reciprocal, divided (prepared .steps) (prepared .sound .low) (prepared .sound .high) (total + c .half) bound, half, prepared .sound .sum)
+  pub exact : total / sumOf 1 * c .reciprocal / reciprocalOne ≡ total / (2 * kernelOfCoefficients c .sum)
+  exact = rw (prepared .reciprocal, divided (prepared .steps) (prepared .sound .low) (prepared .sound .high) total bound, prepared .sound .sum)
 
-  pub pixel : (total + c .half) / (sumOf 1 / 2) * c .reciprocal / reciprocalOne < largestPixel + 1
+  pub pixel : total / sumOf 1 * c .reciprocal / reciprocalOne < largestPixel + 1
   pixel =
-      rw (prepared .reciprocal, divided (prepared .steps) (prepared .sound .low) (prepared .sound .high) (total + c .half) bound)
-      (divided-below (prepared .steps) (prepared .sound .low) (prepared .sound .high) (total + c .half) bound)
+      rw (prepared .reciprocal, divided (prepared .steps) (prepared .sound .low) (prepared .sound .high) total bound)
+      (divided-below (prepared .steps) (prepared .sound .low) (prepared .sound .high) total bound)
 
--- ---- the sum of weight times pixel, of three columns
-pub most-weighted : (c : Coefficients) → Prepared c → (l m r : Column) → Pixels l → Pixels m → Pixels r
-    → weighted (pixelIn l m r) (kernelOfCoefficients c .weights) ≤ kernelOfCoefficients c .sum * largestPixel
+-- ---- the sum of weight times what lines hold, of three columns
+pub most-weighted : (c : Coefficients) → Prepared c → (l m r : Column) → Doubled l → Doubled m → Doubled r
+    → weighted (pixelIn l m r) (kernelOfCoefficients c .weights) ≤ kernelOfCoefficients c .sum * doubled largestPixel
 most-weighted c prepared l m r pl pm pr =
-    subst (λ (t : ℕ). weighted (pixelIn l m r) (kernelOfCoefficients c .weights) ≤ t * largestPixel) (prepared .sound .whole ∙ sym (prepared .sound .sum))
-    (average-at-most (pixelIn l m r) largestPixel (kernelOfCoefficients c .weights)
+    subst (λ (t : ℕ). weighted (pixelIn l m r) (kernelOfCoefficients c .weights) ≤ t * doubled largestPixel) (prepared .sound .whole ∙ sym (prepared .sound .sum))
+    (average-at-most (pixelIn l m r) (doubled largestPixel) (kernelOfCoefficients c .weights)
     (pl .above, (pm .above, (pr .above, (pl .at, (pm .at, (pr .at, (pl .below, (pm .below, (pr .below, tt))))))))))
+
+-- ---- the same sum by products
+
+-- the nine weights that products stand for
+abbrev weightsOf : Products → List ℕ
+weightsOf p =
+    (p .diagonal + p .corners) ∷ (p .down + p .sides) ∷ (p .across + p .corners)
+    ∷ (p .along + p .sides) ∷ (p .centre + p .centre_in_row * (p .along + p .sides) + p .centre_in_column * p .down) ∷ (p .along + p .sides)
+    ∷ (p .across + p .corners) ∷ (p .down + p .sides) ∷ (p .diagonal + p .corners)
+    ∷ []
+
+same-weights : (c : Coefficients) (p : Products) → ProductsOf c p → weightsOf p ≡ kernelOfCoefficients c .weights
+same-weights c p of = rw (of .centre, of .diagonal, of .down, of .across, of .along)
+
+-- what the corners, the sides and the centre add
+add-up : (p : Products) (l m r : Column)
+    → p .diagonal * (l .above + r .below) + p .across * (r .above + l .below) + p .corners * (l .above + r .below + (r .above + l .below))
+    + (p .down * (m .above + m .below + p .centre_in_column * m .at) + p .along * (l .at + r .at + p .centre_in_row * m .at)
+    + p .sides * (m .above + m .below + (l .at + r .at + p .centre_in_row * m .at)))
+    + p .centre * (m .at + 0)
+    ≡ weighted (pixelIn l m r) (weightsOf p)
+add-up p l m r = omega arith
+
+pub by-products : (c : Coefficients) (p : Products) → ProductsOf c p → (l m r : Column)
+    → p .diagonal * (l .above + r .below) + p .across * (r .above + l .below) + p .corners * (l .above + r .below + (r .above + l .below))
+    + (p .down * (m .above + m .below + p .centre_in_column * m .at) + p .along * (l .at + r .at + p .centre_in_row * m .at)
+    + p .sides * (m .above + m .below + (l .at + r .at + p .centre_in_row * m .at)))
+    + p .centre * (m .at + 0)
+    ≡ weighted (pixelIn l m r) (kernelOfCoefficients c .weights)
+by-products c p of l m r = add-up p l m r ∙ ap (weighted (pixelIn l m r)) (same-weights c p of)
 
 -- ---- the coefficients of a kernel
 
@@ -74,11 +102,11 @@ module _ (kernel : Kernel) (k : ℕ) (sound : Sound kernel k) where
   pub stands : (c : Coefficients)
       → c .diagonal ≡ getD (kernel .weights) 0 0 → c .down ≡ getD (kernel .weights) 1 0 → c .across ≡ getD (kernel .weights) 2 0
       → c .along ≡ getD (kernel .weights) 3 0 → c .centre ≡ getD (kernel .weights) 4 0
-      → c .half ≡ kernel .sum / sumOf 1 * (sumOf 1 / 2) → c .reciprocal ≡ reciprocalOf (kernel .sum / sumOf 1 * 2) → StandsFor kernel c
-  stands c diagonal down across along centre half reciprocal =
+      → c .reciprocal ≡ reciprocalOf (kernel .sum / sumOf 1 * 2) → StandsFor kernel c
+  stands c diagonal down across along centre reciprocal =
       let weights : kernelOfCoefficients c .weights ≡ kernel .weights
       = rw (diagonal, down, across, along, centre) (sym (nine (kernel .weights) (sound .nine) ∙ rw (sound .diagonal, sound .down, sound .across, sound .along))) in
-      let is : kernelOfCoefficients c ≡ kernel = ap₂ (λ ws s. record { weights = ws; sum = s }) weights (omega (arith, half, steps-are, sound .sum)) in
+      let is : kernelOfCoefficients c ≡ kernel = ap₂ (λ ws s. record { weights = ws; sum = s }) weights (omega (arith, ap total weights, sound .whole, sound .sum)) in
       record {
         is = is;
         prepared = record { steps = k; sound = subst (λ (n : Kernel). Sound n k) (sym is) sound; reciprocal = reciprocal ∙ ap reciprocalOf (omega (arith, steps-are)) };

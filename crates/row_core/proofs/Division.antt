@@ -1,4 +1,4 @@
--- A division by the sum of k steps, 16384 × k, is one by half the sum of a step and then a multiplication by the reciprocal of
+-- A division by twice the sum of k steps, 16384 × k, is one by the sum of a step and then a multiplication by the reciprocal of
 -- 2 × k, which is rounded up: for a quotient below 65536 × 2 × k the error stays below 1 / (2 × k), too little to reach the
 -- next whole number. Assumes nothing.
 use mathlib.Core.Path.{_≡_, ap, _∙_}
@@ -32,13 +32,13 @@ module _ (k : ℕ) (some : 1 ≤ k) where
       let above : k * (q * reciprocalOf k) < k * ((q / k + 1) * reciprocalOne) = omega (arith, lt-mul-div-succ q some) in
       div-eq-of-lt-le reciprocalOne (le-of-mul-le-mul-left below some) (lt-of-mul-lt-mul-left k above)
 
--- n over the sum of k steps, where it is a pixel
-module _ (k : ℕ) (some : 1 ≤ k) (few : k ≤ mostSteps) (n : ℕ) (bound : n < (largestPixel + 1) * sumOf k) where
-  pub divided : n / (sumOf 1 / 2) * reciprocalOf (2 * k) / reciprocalOne ≡ n / sumOf k
+-- n over twice the sum of k steps, where it is a pixel
+module _ (k : ℕ) (some : 1 ≤ k) (few : k ≤ mostSteps) (n : ℕ) (bound : n < (largestPixel + 1) * (2 * sumOf k)) where
+  pub divided : n / sumOf 1 * reciprocalOf (2 * k) / reciprocalOne ≡ n / (2 * sumOf k)
   divided =
-      let first : ℕ = n / (sumOf 1 / 2) in
+      let first : ℕ = n / sumOf 1 in
       let most : first * (2 * k - 1) ≤ first * (2 * mostSteps - 1) = mul-le-mul-left first (omega arith) in
-      by-reciprocal (2 * k) (omega arith) first (omega arith) ∙ div-div-eq-div-mul n (sumOf 1 / 2) (2 * k) ∙ ap (λ d. n / d) (omega arith)
+      by-reciprocal (2 * k) (omega arith) first (omega arith) ∙ div-div-eq-div-mul n (sumOf 1) (2 * k) ∙ ap (λ d. n / d) (omega arith)
 
-  pub divided-below : n / sumOf k < largestPixel + 1
-  divided-below = div-lt-iff-lt-mul {k = sumOf k} {x = n} {y = largestPixel + 1} (omega arith) .1 bound
+  pub divided-below : n / (2 * sumOf k) < largestPixel + 1
+  divided-below = div-lt-iff-lt-mul {k = 2 * sumOf k} {x = n} {y = largestPixel + 1} (omega arith) .1 bound

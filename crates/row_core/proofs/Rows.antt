@@ -2,19 +2,20 @@
 -- makes from these are those of the step. Assumes nothing.
 use mathlib.Core.Path.{_≡_, refl, sym, ap, ap₂, _∙_}
 use mathlib.Core.List.{List, [], _∷_, _++_}
-use Prim.Native.Nat.{ℕ, zero, suc, _+_, _-_, _*_, _≤_, _<_, min}
-use native.Mathlib.Nat.{suc-mul, mul-le-mul-right}
+use Prim.Native.Nat.{ℕ, zero, suc, _+_, _-_, _*_, _/_, _≤_, _<_, min}
+use native.Mathlib.Nat.{suc-mul, mul-le-mul-right, div-div-eq-div-mul}
 use native.Mathlib.Omega.{arith}
 use lib.ListN.{length, getD, drop, length-drop}
 use lib.Seq.{length-take-le, getD-take, getD-drop}
 use lib.IntN.{ℤ, pos, negsuc, _+ℤ_}
 use Rattle.kernel.specs.Offsets.{Offset, offsets, sumOver, weighted}
+use Rattle.kernel.specs.Sound.{Sound}
 use Rattle.kernel.specs.declared.Kernel.{Kernel}
 use Rattle.image.specs.Image.{nearestPlace, beside, pixelAt, entries, rows}
 use Rattle.averaging.specs.Steps.{nearest, weightedAt, stepOf}
 use Rattle.averaging.proofs.Averages.{Each}
 use Rattle.averaging.proofs.Images.{nearest-lt, place-before, length-entries, entry, same-entries}
-use Rattle.row_core.specs.Rows.{part, paddedOf, columnOf, pixelIn, rowOf}
+use Rattle.row_core.specs.Rows.{part, doubled, paddedOf, columnOf, pixelIn, rowOf}
 
 -- ---- parts of a list
 
@@ -42,11 +43,11 @@ same-average p q ws h = same-over p q offsets ws h
 -- ---- padded rows
 
 -- what stands at a place of a padded row
-padded-at : (r : List ℕ) (i : ℕ) → i < length r + 2 → getD (paddedOf r) i 0 ≡ getD r (min (i - 1) (length r - 1)) 0
+padded-at : (r : List ℕ) (i : ℕ) → i < length r + 2 → getD (paddedOf r) i 0 ≡ doubled (getD r (min (i - 1) (length r - 1)) 0)
 unfolding paddedOf
 padded-at r i l =
-    entry (length r + 2) (λ i. getD r (nearestPlace (length r) (pos i +ℤ negsuc 0)) 0) 0 i l
-    ∙ ap (λ j. getD r j 0) (place-before (length r) i)
+    entry (length r + 2) (λ i. doubled (getD r (nearestPlace (length r) (pos i +ℤ negsuc 0)) 0)) 0 i l
+    ∙ ap (λ j. doubled (getD r j 0)) (place-before (length r) i)
 
 pub length-padded : (r : List ℕ) → length (paddedOf r) ≡ length r + 2
 unfolding paddedOf
@@ -82,23 +83,40 @@ in-image w h pixels y a b c some ea eb ec ws x =
 -- in the padded rows, where they are the three columns from x on
 in-lines : (w : ℕ) (a b c : List ℕ) → length a ≡ w → length b ≡ w → length c ≡ w → (ws : List ℕ) (x : ℕ) → x < w
     → weighted (pixelIn (columnOf (paddedOf a) (paddedOf b) (paddedOf c) x) (columnOf (paddedOf a) (paddedOf b) (paddedOf c) (x + 1)) (columnOf (paddedOf a) (paddedOf b) (paddedOf c) (x + 2))) ws
-    ≡ weighted (aroundColumn w a b c x) ws
+    ≡ weighted (λ d. doubled (aroundColumn w a b c x d)) ws
 in-lines w a b c la lb lc ws x l =
     same-average (pixelIn (columnOf (paddedOf a) (paddedOf b) (paddedOf c) x) (columnOf (paddedOf a) (paddedOf b) (paddedOf c) (x + 1)) (columnOf (paddedOf a) (paddedOf b) (paddedOf c) (x + 2)))
-    (aroundColumn w a b c x) ws
+    (λ d. doubled (aroundColumn w a b c x d)) ws
     (left a la, (here a la, (right a la, (left b lb, (here b lb, (right b lb, (left c lc, (here c lc, (right c lc, tt)))))))))
   where
-    at : (r : List ℕ) → length r ≡ w → (i j : ℕ) → i < w + 2 → j ≡ min (i - 1) (w - 1) → getD (paddedOf r) i 0 ≡ getD r j 0
-    at r lr i j li e = padded-at r i (omega arith) ∙ ap (λ j. getD r j 0) (omega arith)
+    at : (r : List ℕ) → length r ≡ w → (i j : ℕ) → i < w + 2 → j ≡ min (i - 1) (w - 1) → getD (paddedOf r) i 0 ≡ doubled (getD r j 0)
+    at r lr i j li e = padded-at r i (omega arith) ∙ ap (λ j. doubled (getD r j 0)) (omega arith)
 
-    left : (r : List ℕ) → length r ≡ w → getD (paddedOf r) x 0 ≡ getD r (nearestPlace w (pos x +ℤ negsuc 0)) 0
+    left : (r : List ℕ) → length r ≡ w → getD (paddedOf r) x 0 ≡ doubled (getD r (nearestPlace w (pos x +ℤ negsuc 0)) 0)
     left r lr = at r lr x (nearestPlace w (pos x +ℤ negsuc 0)) (omega arith) (place-before w x)
 
-    here : (r : List ℕ) → length r ≡ w → getD (paddedOf r) (x + 1) 0 ≡ getD r (nearestPlace w (pos x +ℤ pos 0)) 0
+    here : (r : List ℕ) → length r ≡ w → getD (paddedOf r) (x + 1) 0 ≡ doubled (getD r (nearestPlace w (pos x +ℤ pos 0)) 0)
     here r lr = at r lr (x + 1) (nearestPlace w (pos x +ℤ pos 0)) (omega arith) (omega arith)
 
-    right : (r : List ℕ) → length r ≡ w → getD (paddedOf r) (x + 2) 0 ≡ getD r (nearestPlace w (pos x +ℤ pos 1)) 0
+    right : (r : List ℕ) → length r ≡ w → getD (paddedOf r) (x + 2) 0 ≡ doubled (getD r (nearestPlace w (pos x +ℤ pos 1)) 0)
     right r lr = at r lr (x + 2) (nearestPlace w (pos x +ℤ pos 1)) (omega arith) (omega arith)
+
+-- ---- rounding
+
+-- a sum of weight times doubled numbers is twice that of weight times number, and the weights
+doubled-over : (p : Offset → ℕ) (ds : List Offset) (ws : List ℕ)
+    → sumOver _+_ 0 (λ d w. w * doubled (p d)) ds ws ≡ 2 * sumOver _+_ 0 (λ d w. w * p d) ds ws + sumOver _+_ 0 (λ d w. w) ds ws
+doubled-over p [] ws = refl
+doubled-over p (d ∷ ds) [] = refl
+doubled-over p (d ∷ ds) (w ∷ ws) = omega (arith, doubled-over p ds ws)
+
+-- so that it needs no half for rounding
+rounded : (k : Kernel) (n : ℕ) → Sound k n → (p : Offset → ℕ)
+    → weighted (λ d. doubled (p d)) (k .weights) / (2 * k .sum) ≡ nearest (weighted p (k .weights)) (k .sum)
+rounded k n sound p =
+    let sum : weighted (λ d. doubled (p d)) (k .weights) ≡ 2 * weighted p (k .weights) + k .sum = doubled-over p offsets (k .weights) ∙ omega (arith, sound .whole, sound .sum) in
+    let half : (2 * weighted p (k .weights) + k .sum) / 2 ≡ weighted p (k .weights) + k .sum / 2 = omega (arith, sound .sum) in
+    rw sum (sym (div-div-eq-div-mul (2 * weighted p (k .weights) + k .sum) 2 (k .sum)) ∙ ap (λ (t : ℕ). t / k .sum) half)
 
 -- ---- the rows of a step
 
@@ -115,7 +133,7 @@ unfoldable pub lineOf : Kernel → ℕ → ℕ → List ℕ → ℕ → List ℕ
 lineOf k w h pixels y =
     rowOf k w (paddedOf (part ((y - 1) * w) w pixels)) (paddedOf (part (y * w) w pixels)) (paddedOf (part (min (y + 1) (h - 1) * w) w pixels))
 
-module _ (k : Kernel) (w h : ℕ) (pixels : List ℕ) (some : 1 ≤ w) (size : length pixels ≡ w * h) where
+module _ (k : Kernel) (n : ℕ) (sound : Sound k n) (w h : ℕ) (pixels : List ℕ) (some : 1 ≤ w) (size : length pixels ≡ w * h) where
   long : (y : ℕ) → y < h → length (part (y * w) w pixels) ≡ w
   long y l = length-part (y * w) w pixels (omega (arith, row-inside w h y l))
 
@@ -127,9 +145,10 @@ module _ (k : Kernel) (w h : ℕ) (pixels : List ℕ) (some : 1 ≤ w) (size : l
       let c = part (min (y + 1) (h - 1) * w) w pixels in
       let row : ℕ → List ℕ = λ j. part (j * w) w pixels in
       same-entries w (λ x. nearest (weightedAt (k .weights) w h pixels x y) (k .sum)) _
-      (λ x lx. ap (λ s. nearest s (k .sum))
-      (in-image w h pixels y a b c some (ap row (place-before h y ∙ omega arith)) (ap row (omega arith)) refl (k .weights) x
-      ∙ sym (in-lines w a b c (long (y - 1) (omega arith)) (long y l) (long (min (y + 1) (h - 1)) (omega arith)) (k .weights) x lx)))
+      (λ x lx.
+      ap (λ s. nearest s (k .sum)) (in-image w h pixels y a b c some (ap row (place-before h y ∙ omega arith)) (ap row (omega arith)) refl (k .weights) x)
+      ∙ sym (rounded k n sound (aroundColumn w a b c x))
+      ∙ ap (λ s. s / (2 * k .sum)) (sym (in-lines w a b c (long (y - 1) (omega arith)) (long y l) (long (min (y + 1) (h - 1)) (omega arith)) (k .weights) x lx)))
 
   pub by-lines : rows h (lineOf k w h pixels) ≡ stepOf k w h pixels
   unfolding stepOf

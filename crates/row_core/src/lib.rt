@@ -3,23 +3,20 @@
 //
 // A row stands in a line between its own first and last pixel: the nearest pixel outside is then a neighbour like any other,
 // and one loop without a branch makes a row. Pixels are widened there once, and weights fit 32 bits, so that the compiler
-// multiplies several at a time. The sum of weight times pixel is divided by 4 × M, which is 8192 × (2 × steps), by a shift and
-// one more multiplication.
+// multiplies several at a time. A line holds twice each pixel and one more: the sum of weight times such numbers is then twice
+// that of weight times pixel, and the sum of the weights, half of which rounds to the nearest, halves up. So nothing is added
+// for rounding. The sum is divided by 8 × M, which is 16384 × (2 × steps), by a shift and one more multiplication.
 ghost use mathlib.Core.Path.{_≡_};
-ghost use Prim.Native.Nat.{_+_, _*_, _≤_, _<_};
+ghost use Prim.Native.Nat.{_+_, _*_, _/_, _^_, _≤_, _<_};
 ghost use lib.ListN.{length};
 ghost use Rattle.limits.specs.Limits.{largestPixel};
 ghost use Rattle.kernel.specs.Offsets.{weighted};
-ghost use Rattle.averaging.specs.Steps.{nearest};
-ghost use Rattle.row_core.specs.Prepared.{StepKernel, kernelOfCoefficients, Prepared, StandsFor};
-ghost use Rattle.row_core.specs.Rows.{Pixels, Lines, columnOf, pixelIn, paddedOf, rowOf};
+ghost use Rattle.row_core.specs.Prepared.{StepKernel, kernelOfCoefficients, Prepared, StandsFor, Counts, ProductsOf};
+ghost use Rattle.row_core.specs.Rows.{doubled, Doubled, Lines, columnOf, pixelIn, paddedOf, rowOf};
 use kernel::Kernel;
 
 // The sum of a kernel's weights, for each of its steps.
 const SUM_PER_STEP: u64 = 4 * kernel::UNITS_PER_SQUARE_PIXEL;
-
-// Half of it.
-const HALF_PER_STEP: u64 = SUM_PER_STEP / 2;
 
 // What stands for 1 in the reciprocal of twice a step count: 2^32. The quotient is then the upper half of the product, which
 // the compiler takes without a shift; a step count itself would need 33 bits for the reciprocal of 1.
@@ -33,10 +30,27 @@ pub struct Coefficients {
     pub across: u32,
     pub along: u32,
     pub centre: u32,
-    // Half the sum of the nine weights: added before the division, it rounds to the nearest, halves up.
-    pub half: u64,
     // RECIPROCAL_ONE over twice the step count, upward.
     pub reciprocal: u32,
+}
+
+// The same weights, by the products that a pixel is made of. Pairs of pixels that weigh the same are added first and multiplied
+// once, by `corners` or `sides`, and have 0 by themselves. A centre that weighs twice as much as a side is added twice to the
+// pair that weighs so, and has 0 by itself too. Every product stands in the code of a pixel. Those that a kernel does not need
+// have a constant 0 in what the functions below make of its coefficients: the compiler makes a loop over the row for each of
+// these functions, and leaves them out of it (`tests/row_loops.py`).
+pub struct Products {
+    pub diagonal: u32,
+    pub down: u32,
+    pub across: u32,
+    pub along: u32,
+    // What all four corners weigh, and all four sides.
+    pub corners: u32,
+    pub sides: u32,
+    pub centre: u32,
+    // How often the centre counts with the pair on its left and right, and with the pair above and below it: 0 or 2.
+    pub centre_in_row: u32,
+    pub centre_in_column: u32,
 }
 
 // One column of three lines.
@@ -51,7 +65,6 @@ pub fn coefficients_of(kernel: Kernel) -> Coefficients
     ensures { λ r. ⌜ StandsFor kernel r ⌝ }
 {
     let steps = kernel.sum / SUM_PER_STEP;
-    let half = steps * HALF_PER_STEP;
     let halves = steps * 2;
     let reciprocal = ((RECIPROCAL_ONE + (halves - 1)) / halves) as u32;
     let diagonal = kernel.weights[0] as u32;
@@ -65,24 +78,234 @@ pub fn coefficients_of(kernel: Kernel) -> Coefficients
         across,
         along,
         centre,
-        half,
         reciprocal,
     }
 }
 
-// A row between its own first and last pixel.
+impl Coefficients {
+    // Any kernel: five products.
+    pub fn full(self) -> Products
+        ensures { λ r. ⌜ ProductsOf self r ⌝ }
+    {
+        Products {
+            diagonal: self.diagonal,
+            down: self.down,
+            across: self.across,
+            along: self.along,
+            corners: 0,
+            sides: 0,
+            centre: self.centre,
+            centre_in_row: 0,
+            centre_in_column: 0,
+        }
+    }
+
+    // The centre weighs twice as much as the pixels beside it, as by document 02's S-2 where a kernel is no taller than wide:
+    // four.
+    pub fn full_wide(self) -> Products
+        requires { ⌜ self .centre ≡ 2 * self .along ⌝ }
+        ensures { λ r. ⌜ ProductsOf self r ⌝ }
+    {
+        Products {
+            diagonal: self.diagonal,
+            down: self.down,
+            across: self.across,
+            along: self.along,
+            corners: 0,
+            sides: 0,
+            centre: 0,
+            centre_in_row: 2,
+            centre_in_column: 0,
+        }
+    }
+
+    // Twice as much as the pixels above and below it: four.
+    pub fn full_tall(self) -> Products
+        requires { ⌜ self .centre ≡ 2 * self .down ⌝ }
+        ensures { λ r. ⌜ ProductsOf self r ⌝ }
+    {
+        Products {
+            diagonal: self.diagonal,
+            down: self.down,
+            across: self.across,
+            along: self.along,
+            corners: 0,
+            sides: 0,
+            centre: 0,
+            centre_in_row: 0,
+            centre_in_column: 2,
+        }
+    }
+
+    // All sides weigh the same.
+    fn even(self) -> Products
+        requires { ⌜ self .along ≡ self .down ⌝ }
+        ensures { λ r. ⌜ ProductsOf self r ⌝ }
+    {
+        Products {
+            diagonal: self.diagonal,
+            down: 0,
+            across: self.across,
+            along: 0,
+            corners: 0,
+            sides: self.down,
+            centre: self.centre,
+            centre_in_row: 0,
+            centre_in_column: 0,
+        }
+    }
+
+    // All sides weigh the same, and the centre twice as much.
+    fn even_wide(self) -> Products
+        requires { ⌜ (self .along ≡ self .down) × (self .centre ≡ 2 * self .along) ⌝ }
+        ensures { λ r. ⌜ ProductsOf self r ⌝ }
+    {
+        Products {
+            diagonal: self.diagonal,
+            down: 0,
+            across: self.across,
+            along: 0,
+            corners: 0,
+            sides: self.down,
+            centre: 0,
+            centre_in_row: 2,
+            centre_in_column: 0,
+        }
+    }
+
+    // The centre weighs nothing: four.
+    pub fn hollow(self) -> Products
+        requires { ⌜ self .centre ≡ 0 ⌝ }
+        ensures { λ r. ⌜ ProductsOf self r ⌝ }
+    {
+        let mut products = self.full();
+        products.centre = 0;
+        products
+    }
+
+    // Of the corners only those on the diagonal that falls to the right weigh something: four.
+    pub fn falling(self) -> Products
+        requires { ⌜ self .across ≡ 0 ⌝ }
+        ensures { λ r. ⌜ ProductsOf self r ⌝ }
+    {
+        let mut products = self.full();
+        products.across = 0;
+        products
+    }
+
+    // Only those on the diagonal that rises to the right: four.
+    pub fn rising(self) -> Products
+        requires { ⌜ self .diagonal ≡ 0 ⌝ }
+        ensures { λ r. ⌜ ProductsOf self r ⌝ }
+    {
+        let mut products = self.full();
+        products.diagonal = 0;
+        products
+    }
+
+    // No corner weighs anything: three.
+    pub fn cross(self) -> Products
+        requires { ⌜ (self .diagonal ≡ 0) × (self .across ≡ 0) ⌝ }
+        ensures { λ r. ⌜ ProductsOf self r ⌝ }
+    {
+        let mut products = self.full();
+        products.diagonal = 0;
+        products.across = 0;
+        products
+    }
+
+    // And all sides weigh the same: two.
+    pub fn even_cross(self) -> Products
+        requires { ⌜ (self .diagonal ≡ 0) × (self .across ≡ 0) × (self .along ≡ self .down) ⌝ }
+        ensures { λ r. ⌜ ProductsOf self r ⌝ }
+    {
+        let mut products = self.even();
+        products.diagonal = 0;
+        products.across = 0;
+        products
+    }
+
+    // All corners weigh the same: four.
+    pub fn upright(self) -> Products
+        requires { ⌜ self .across ≡ self .diagonal ⌝ }
+        ensures { λ r. ⌜ ProductsOf self r ⌝ }
+    {
+        let mut products = self.full();
+        products.diagonal = 0;
+        products.across = 0;
+        products.corners = self.diagonal;
+        products
+    }
+
+    // And the centre twice as much as the pixels beside it: three.
+    pub fn upright_wide(self) -> Products
+        requires { ⌜ (self .across ≡ self .diagonal) × (self .centre ≡ 2 * self .along) ⌝ }
+        ensures { λ r. ⌜ ProductsOf self r ⌝ }
+    {
+        let mut products = self.full_wide();
+        products.diagonal = 0;
+        products.across = 0;
+        products.corners = self.diagonal;
+        products
+    }
+
+    // Or as those above and below it: three.
+    pub fn upright_tall(self) -> Products
+        requires { ⌜ (self .across ≡ self .diagonal) × (self .centre ≡ 2 * self .down) ⌝ }
+        ensures { λ r. ⌜ ProductsOf self r ⌝ }
+    {
+        let mut products = self.full_tall();
+        products.diagonal = 0;
+        products.across = 0;
+        products.corners = self.diagonal;
+        products
+    }
+
+    // All corners weigh the same, and all sides: three.
+    pub fn round(self) -> Products
+        requires { ⌜ (self .across ≡ self .diagonal) × (self .along ≡ self .down) ⌝ }
+        ensures { λ r. ⌜ ProductsOf self r ⌝ }
+    {
+        let mut products = self.even();
+        products.diagonal = 0;
+        products.across = 0;
+        products.corners = self.diagonal;
+        products
+    }
+
+    // And the centre twice as much as a side: two.
+    pub fn round_wide(self) -> Products
+        requires { ⌜ (self .across ≡ self .diagonal) × (self .along ≡ self .down) × (self .centre ≡ 2 * self .along) ⌝ }
+        ensures { λ r. ⌜ ProductsOf self r ⌝ }
+    {
+        let mut products = self.even_wide();
+        products.diagonal = 0;
+        products.across = 0;
+        products.corners = self.diagonal;
+        products
+    }
+}
+
+// What a line holds for a pixel.
+fn doubled(pixel: u16) -> u32
+    ensures { λ r. ⌜ r ≡ doubled pixel ⌝ }
+{
+    2 * (pixel as u32) + 1
+}
+
+// A row between its own first and last pixel, each pixel doubled and one more.
 pub fn pad(row: &[u16], line: &mut [u32])
     requires { ⌜ (1 ≤ length (now row)) × (length (now line) ≡ length (now row) + 2) ⌝ }
     ensures { λ _. ⌜ now (line .exit) ≡ paddedOf (now (row .entry)) ⌝ }
 {
     let width = row.len();
-    line[0] = row[0] as u32;
+    line[0] = doubled(row[0]);
     let mut i = 0usize;
     while i < width {
-        line[i + 1] = row[i] as u32;
+        line[i + 1] = doubled(row[i]);
         i += 1;
     }
-    line[width + 1] = row[width - 1] as u32;
+    line[width + 1] = doubled(row[width - 1]);
 }
 
 fn column_at(up: &[u32], mid: &[u32], down: &[u32], x: usize) -> Column
@@ -96,37 +319,82 @@ fn column_at(up: &[u32], mid: &[u32], down: &[u32], x: usize) -> Column
     }
 }
 
-// A weight times the pixels at its two offsets.
+// A weight times the pixels that weigh so, in two parts.
 fn weigh(weight: u32, first: u32, second: u32) -> u64
-    requires { ⌜ (first ≤ largestPixel) × (second ≤ largestPixel) ⌝ }
-    ensures { λ r. ⌜ r ≡ weight * (first + second) ⌝ }
+    requires { ⌜ (first ≤ 4 * doubled largestPixel) × (second ≤ 4 * doubled largestPixel) ⌝ }
+    ensures { λ r. ⌜ (r ≡ weight * (first + second)) × (r < 2 ^ 52) ⌝ }
 {
     (weight as u64) * ((first + second) as u64)
 }
 
-// A sum of weight times pixel over the sum of the weights, to the nearest, halves up. The first quotient has at most 23 bits;
-// to say that it fits 32 lets the compiler multiply it as it does the weights.
+// The centre, as often as it counts with a pair.
+fn counted(times: u32, pixel: u32) -> u32
+    requires { ⌜ (times ≤ 2) × (pixel ≤ doubled largestPixel) ⌝ }
+    ensures { λ r. ⌜ (r ≡ times * pixel) × (r ≤ 2 * doubled largestPixel) ⌝ }
+{
+    times * pixel
+}
+
+// A sum of weight times what lines hold, over twice the sum of the weights. The first quotient has at most 23 bits; to say that
+// it fits 32 lets the compiler multiply it as it does the weights.
 fn divide(total: u64, coefficients: Coefficients) -> u16
     requires { ⌜ Prepared coefficients ⌝ }
-    requires { ⌜ total ≤ kernelOfCoefficients coefficients .sum * largestPixel ⌝ }
-    ensures { λ r. ⌜ r ≡ nearest total (kernelOfCoefficients coefficients .sum) ⌝ }
+    requires { ⌜ total ≤ kernelOfCoefficients coefficients .sum * doubled largestPixel ⌝ }
+    ensures { λ r. ⌜ r ≡ total / (2 * kernelOfCoefficients coefficients .sum) ⌝ }
 {
-    let quotient = ((total + coefficients.half) / HALF_PER_STEP) as u32;
+    let quotient = (total / SUM_PER_STEP) as u32;
     ((quotient as u64) * (coefficients.reciprocal as u64) / RECIPROCAL_ONE) as u16
 }
 
-// One pixel of the next image, from its column and those on its left and right.
-fn average(coefficients: Coefficients, left: Column, here: Column, right: Column) -> u16
-    requires { ⌜ Prepared coefficients ⌝ }
-    requires { ⌜ Pixels left × Pixels here × Pixels right ⌝ }
-    ensures { λ r. ⌜ r ≡ nearest (weighted (pixelIn left here right) (kernelOfCoefficients coefficients .weights)) (kernelOfCoefficients coefficients .sum) ⌝ }
+// What the corners add to a pixel.
+fn corner_sum(products: Products, left: Column, right: Column) -> u64
+    requires { ⌜ Doubled left × Doubled right ⌝ }
+    ensures { λ r. ⌜ r ≡ products .diagonal * (left .above + right .below) + products .across * (right .above + left .below) + products .corners * (left .above + right .below + (right .above + left .below)) ⌝ }
+    ensures { λ r. ⌜ r < 2 ^ 54 ⌝ }
 {
-    let diagonal = weigh(coefficients.diagonal, left.above, right.below);
-    let down = weigh(coefficients.down, here.above, here.below);
-    let across = weigh(coefficients.across, right.above, left.below);
-    let along = weigh(coefficients.along, left.at, right.at);
-    let centre = weigh(coefficients.centre, here.at, 0);
-    divide(diagonal + down + across + along + centre, coefficients)
+    let falling = left.above + right.below;
+    let rising = right.above + left.below;
+    let diagonal = weigh(products.diagonal, falling, 0);
+    let across = weigh(products.across, rising, 0);
+    let corners = weigh(products.corners, falling, rising);
+    diagonal + across + corners
+}
+
+// What the sides add, with the centre where it counts with a pair.
+fn side_sum(products: Products, left: Column, here: Column, right: Column) -> u64
+    requires { ⌜ Counts products ⌝ }
+    requires { ⌜ Doubled left × Doubled here × Doubled right ⌝ }
+    ensures { λ r. ⌜ r ≡ products .down * (here .above + here .below + products .centre_in_column * here .at) + products .along * (left .at + right .at + products .centre_in_row * here .at) + products .sides * (here .above + here .below + (left .at + right .at + products .centre_in_row * here .at)) ⌝ }
+    ensures { λ r. ⌜ r < 2 ^ 54 ⌝ }
+{
+    let column = here.above + here.below;
+    let row = left.at + right.at + counted(products.centre_in_row, here.at);
+    let down = weigh(
+        products.down,
+        column,
+        counted(products.centre_in_column, here.at),
+    );
+    let along = weigh(products.along, row, 0);
+    let sides = weigh(products.sides, column, row);
+    down + along + sides
+}
+
+// One pixel of the next image, from its column and those on its left and right.
+fn average(
+    coefficients: Coefficients,
+    products: Products,
+    left: Column,
+    here: Column,
+    right: Column,
+) -> u16
+    requires { ⌜ Prepared coefficients × ProductsOf coefficients products ⌝ }
+    requires { ⌜ Doubled left × Doubled here × Doubled right ⌝ }
+    ensures { λ r. ⌜ r ≡ weighted (pixelIn left here right) (kernelOfCoefficients coefficients .weights) / (2 * kernelOfCoefficients coefficients .sum) ⌝ }
+{
+    let corners = corner_sum(products, left, right);
+    let sides = side_sum(products, left, here, right);
+    let centre = weigh(products.centre, here.at, 0);
+    divide(corners + sides + centre, coefficients)
 }
 
 // The row core: one row of the next image from three lines, which have a pixel more on both sides.
@@ -136,8 +404,9 @@ pub fn smooth_row(
     down: &[u32],
     out: &mut [u16],
     coefficients: Coefficients,
+    products: Products,
 )
-    requires { ⌜ Prepared coefficients ⌝ }
+    requires { ⌜ Prepared coefficients × ProductsOf coefficients products ⌝ }
     requires { ⌜ Lines (now up) (now mid) (now down) (length (now out)) ⌝ }
     ensures { λ _. ⌜ now (out .exit) ≡ rowOf (kernelOfCoefficients coefficients) (length (now (out .entry))) (now (up .entry)) (now (mid .entry)) (now (down .entry)) ⌝ }
 {
@@ -146,7 +415,7 @@ pub fn smooth_row(
         let left = column_at(up, mid, down, x);
         let here = column_at(up, mid, down, x + 1);
         let right = column_at(up, mid, down, x + 2);
-        out[x] = average(coefficients, left, here, right);
+        out[x] = average(coefficients, products, left, here, right);
         x += 1;
     }
 }

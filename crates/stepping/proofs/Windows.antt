@@ -6,15 +6,15 @@ use Prim.Native.Nat.{ℕ, _+_, _≤_}
 use native.Mathlib.Omega.{arith}
 use lib.ListN.{length}
 use lib.Seq.{paste, length-paste}
-use Rattle.row_core.specs.Rows.{paddedOf, AllPixels, part}
+use Rattle.row_core.specs.Rows.{paddedOf, AllDoubled, part}
 use Rattle.row_core.proofs.Rows.{length-part, length-padded}
 use Rattle.stepping.specs.Buffers.{WindowInside, Slots, Loaded}
 use Rattle.stepping.specs.declared.Window.{Window}
 use Rattle.stepping.proofs.Buffers.{part-written, part-kept, apart-sym}
 
--- a window of lines of pixels, and a row that fits
+-- a window of lines, and a row that fits
 pub inside : (l : List ℕ) (v : Window) (m i w : ℕ) → v .above + (w + 2) ≤ length l → v .at + (w + 2) ≤ length l → v .below + (w + 2) ≤ length l
-    → AllPixels (part (v .above) (w + 2) l) → AllPixels (part (v .at) (w + 2) l) → AllPixels (part (v .below) (w + 2) l) → i + w ≤ m → WindowInside l v m i w
+    → AllDoubled (part (v .above) (w + 2) l) → AllDoubled (part (v .at) (w + 2) l) → AllDoubled (part (v .below) (w + 2) l) → i + w ≤ m → WindowInside l v m i w
 inside l v m i w above at below pa pt pb row =
     record {
       above = above;
@@ -26,9 +26,9 @@ inside l v m i w above at below pa pt pb row =
             up = length-part (v .above) (w + 2) l above;
             mid = length-part (v .at) (w + 2) l at;
             down = length-part (v .below) (w + 2) l below;
-            up-pixels = pa;
-            mid-pixels = pt;
-            down-pixels = pb;
+            up-doubled = pa;
+            mid-doubled = pt;
+            down-doubled = pb;
           };
     }
 
@@ -50,15 +50,14 @@ load-below l v w r slots lr e =
       below = rw e (part-written l (v .below) (w + 2) (paddedOf r) (slots .below) n);
     }
 
--- then a row further down is loaded
-pub move-down : (l o : List ℕ) (v u : Window) (w : ℕ) (a b c : List ℕ) → Loaded l v w a b → Below l o v w c
+-- then the line at holds the row b, and a row further down is loaded
+pub move-down : (l o : List ℕ) (v u : Window) (w : ℕ) (b c : List ℕ) → Slots (length l) (w + 2) v → part (v .at) (w + 2) l ≡ paddedOf b → Below l o v w c
     → (u .above ≡ v .at) × (u .at ≡ v .below) × (u .below ≡ v .above) → Loaded o u w b c
-move-down l o v u w a b c loaded below (ea, et, eb) =
-    let s = loaded .slots in
+move-down l o v u w b c s at below (ea, et, eb) =
     record {
       slots =
           rw (below .size, ea, et, eb)
           (record { above = s .at; at = s .below; below = s .above; above-at = s .at-below; at-below = s .below-above; below-above = s .above-at });
-      above = rw ea (below .at ∙ loaded .at);
+      above = rw ea (below .at ∙ at);
       at = rw et (below .below);
     }

@@ -2,10 +2,10 @@
 use mathlib.Core.Path.{_≡_}
 use mathlib.Core.Logic.{_⊎_}
 use mathlib.Core.List.{List}
-use Prim.Native.Nat.{ℕ, _+_, _≤_}
+use Prim.Native.Nat.{ℕ, _+_, _≤_, _<_}
 use lib.ListN.{length}
 use Rattle.kernel.specs.declared.Kernel.{Kernel}
-use Rattle.row_core.specs.Rows.{part, paddedOf, rowOf, AllPixels, Lines}
+use Rattle.row_core.specs.Rows.{part, paddedOf, rowOf, Lines}
 use Rattle.stepping.specs.declared.Window.{Window}
 
 -- the row of w pixels that a step makes from the lines of a window
@@ -45,11 +45,19 @@ pub record Loaded (lines : List ℕ) (v : Window) (w : ℕ) (a b : List ℕ) : T
   pub above : part (v .above) (w + 2) lines ≡ paddedOf a
   pub at : part (v .at) (w + 2) lines ≡ paddedOf b
 
--- the row of w pixels at i of m is to be made, from the lines above and at, and from the row below it of n pixels
-pub record Turn (n : ℕ) (lines : List ℕ) (v : Window) (m i w : ℕ) : Type 0 where
+-- the row of w pixels at i of a source is to be made: its own line stands in the line at, and the next row, if any, is whole
+pub record Turn (source lines : List ℕ) (v : Window) (i w : ℕ) : Type 0 where
   pub some : 1 ≤ w
-  pub next : i + w + w ≤ n
-  pub row : i + w ≤ m
+  pub row : i + w ≤ length source
+  pub next : i + w < length source → i + w + w ≤ length source
   pub slots : Slots (length lines) (w + 2) v
-  pub above : AllPixels (part (v .above) (w + 2) lines)
-  pub at : AllPixels (part (v .at) (w + 2) lines)
+  pub at : part (v .at) (w + 2) lines ≡ paddedOf (part i w source)
+
+-- the lines of a window are a, b and c
+pub record WindowHolds (lines : List ℕ) (v : Window) (w : ℕ) (a b c : List ℕ) : Type 0 where
+  pub above-inside : v .above + (w + 2) ≤ length lines
+  pub at-inside : v .at + (w + 2) ≤ length lines
+  pub below-inside : v .below + (w + 2) ≤ length lines
+  pub above : part (v .above) (w + 2) lines ≡ a
+  pub at : part (v .at) (w + 2) lines ≡ b
+  pub below : part (v .below) (w + 2) lines ≡ c

@@ -15,7 +15,7 @@ use Rattle.row_core.specs.Prepared.{kernelOfCoefficients}
 use Rattle.row_core.specs.Rows.{AllPixels}
 use Rattle.row_core.proofs.Pixels.{part-pixels}
 use Rattle.stepping.specs.Whole.{HoldsRows}
-use Rattle.stepping.proofs.Whole.{lines-pixels}
+use Rattle.stepping.proofs.Whole.{lines-doubled}
 use Rattle.machine.specs.Store.{part}
 use Rattle.machine.proofs.Parts.{length-part}
 use Rattle.buffers.proofs.step_loaded.Statement.{statement}
@@ -77,7 +77,7 @@ step-all-requires c κs =
         high = p .high;
         room = holds .room;
         target = rw (add-sub-cancel-left (a .to) n) (length-part (a .to) n (a .store .now) (p .target));
-        pixels = lines-pixels lines source (a .width) (a .height) holds pixels;
+        doubled = lines-doubled lines source (a .width) (a .height) holds pixels;
       },
     )
 

@@ -16,9 +16,6 @@ use Rattle.row_core.proofs.coefficients_of.Tie as tie
 weight-cast : (s : tie.Start) (i : ℕ) → Fits w32 (getD (s .args .t1 .weights) i 0)
 weight-cast s i = record { fits = omega (arith, weight-fits (s .args .t1) (s .pre .steps) (s .pre .sound) i) }
 
-mul-half : tie.Need-mul-half
-mul-half c = search needs
-
 mul-halves : tie.Need-mul-halves
 mul-halves c = search needs
 
@@ -67,13 +64,12 @@ cast-centre c = weight-cast (c .before .before .before .before .before) _
 returns : tie.Need-returns
 returns c =
     let s = c .before .before .before .before .before in
-    stands (s .args .t1) (s .pre .steps) (s .pre .sound) _ refl refl refl refl refl refl refl
+    stands (s .args .t1) (s .pre .steps) (s .pre .sound) _ refl refl refl refl refl refl
 
 pub coefficients-of-spec : {M : Type 1} → statement M
 coefficients-of-spec =
     tie.close
     (tie.spec
-    mul-half
     mul-halves
     sub-reciprocal
     add-reciprocal

@@ -7,9 +7,6 @@ use borrow.Author.Needs.{needs}
 use Rattle.row_core.proofs.divide.Statement.{statement}
 use Rattle.row_core.proofs.divide.Tie as tie
 
-add-quotient : tie.Need-add-quotient
-add-quotient c = search needs
-
 cast-quotient : tie.Need-cast-quotient
 cast-quotient c = search needs
 
@@ -24,19 +21,18 @@ mul-result c = record { fits = product-below (search needs) (search needs) }
 
 cast-result-3 : tie.Need-cast-result-3
 cast-result-3 c =
-    let s = c .before .before in
+    let s = c .before in
     omega (arith, pixel (s .args .coefficients) (s .pre .0) (s .args .total) (s .pre .1))
 
 returns : tie.Need-returns
 returns c =
-    let s = c .before .before in
+    let s = c .before in
     exact (s .args .coefficients) (s .pre .0) (s .args .total) (s .pre .1)
 
 pub divide-spec : {M : Type 1} → statement M
 divide-spec =
     tie.close
     (tie.spec
-    add-quotient
     cast-quotient
     cast-result
     cast-result-2

@@ -2,37 +2,36 @@
 -- left of the row. Assumes nothing.
 use mathlib.Core.Path.{_≡_, refl, _∙_}
 use mathlib.Core.List.{List}
-use Prim.Native.Nat.{ℕ, _+_, _-_}
+use Prim.Native.Nat.{ℕ, _+_, _-_, _*_, _/_}
 use native.Mathlib.Omega.{arith}
 use lib.ListN.{length}
 use borrow.Author.Needs.{needs}
 use Rattle.kernel.specs.Offsets.{weighted}
-use Rattle.averaging.specs.Steps.{nearest}
 use Rattle.averaging.proofs.Images.{Filled, filled-none, filled-more, filled-all}
 use Rattle.row_core.specs.Prepared.{kernelOfCoefficients}
-use Rattle.row_core.specs.Rows.{columnOf, pixelIn, Pixels, rowOf}
+use Rattle.row_core.specs.Rows.{columnOf, pixelIn, Doubled, rowOf}
 use Rattle.row_core.specs.declared.Coefficients.{Coefficients}
 use Rattle.row_core.specs.declared.Column.{Column}
-use Rattle.row_core.proofs.Pixels.{column-pixels}
+use Rattle.row_core.proofs.Pixels.{column-doubled}
 use Rattle.row_core.proofs.smooth_row.Statement.{statement}
 use Rattle.row_core.proofs.smooth_row.Tie as tie
 
 -- the pixels of the row
 abbrev pixels : Coefficients → List ℕ → List ℕ → List ℕ → ℕ → ℕ
 pixels k a b c x =
-    nearest (weighted (pixelIn (columnOf a b c x) (columnOf a b c (x + 1)) (columnOf a b c (x + 2))) (kernelOfCoefficients k .weights)) (kernelOfCoefficients k .sum)
+    weighted (pixelIn (columnOf a b c x) (columnOf a b c (x + 1)) (columnOf a b c (x + 2))) (kernelOfCoefficients k .weights) / (2 * kernelOfCoefficients k .sum)
 
 abbrev Inv-loop : tie.InvT-loop
-Inv-loop up mid down out₀ coefficients x₀ out x = Filled (length out₀) (pixels coefficients up mid down) out x
+Inv-loop up mid down out₀ coefficients products x₀ out x = Filled (length out₀) (pixels coefficients up mid down) out x
 
 abbrev μ-loop : tie.MeasureT-loop
-μ-loop up mid down out₀ coefficients x₀ out x = length out₀ - x
+μ-loop up mid down out₀ coefficients products x₀ out x = length out₀ - x
 
--- the columns hold pixels
-pixels-in : (s : tie.Start Inv-loop μ-loop) (x : ℕ) {v : Column} → v ≡ columnOf (s .args .up .now) (s .args .mid .now) (s .args .down .now) x → Pixels v
-pixels-in s x e =
+-- what the columns hold
+doubled-in : (s : tie.Start Inv-loop μ-loop) (x : ℕ) {v : Column} → v ≡ columnOf (s .args .up .now) (s .args .mid .now) (s .args .down .now) x → Doubled v
+doubled-in s x e =
     let lines = s .pre .1 in
-    column-pixels (s .args .up .now) (s .args .mid .now) (s .args .down .now) x (lines .up-pixels) (lines .mid-pixels) (lines .down-pixels) e
+    column-doubled (s .args .up .now) (s .args .mid .now) (s .args .down .now) x (lines .up-doubled) (lines .mid-doubled) (lines .down-doubled) e
 
 loop-holds : tie.Need-loop-holds Inv-loop μ-loop
 loop-holds c =
@@ -58,9 +57,9 @@ average-requires : tie.Need-average-requires Inv-loop μ-loop
 average-requires c κs =
     let s = c .before .before .before .before .before .before .before .before .before in
     let x = c .before .before .before .before .loop .x in
-    let left = pixels-in s x (c .before .before .column-at .ensures) in
-    let here = pixels-in s (x + 1) (c .before .column-at2 .ensures) in
-    let right = pixels-in s (x + 2) (c .column-at3 .ensures) in
+    let left = doubled-in s x (c .before .before .column-at .ensures) in
+    let here = doubled-in s (x + 1) (c .before .column-at2 .ensures) in
+    let right = doubled-in s (x + 2) (c .column-at3 .ensures) in
     (s .pre .0, (search needs, search needs, search needs))
 
 mul-out : tie.Need-mul-out Inv-loop μ-loop

@@ -1,10 +1,10 @@
 -- `stepping::step_through` meets its contract. The loop's invariant: the rows before row y are in place, and the window's lines
--- above and at hold row y and the row before it, or row 0 where there is none. The measure is what is left of the rows. The
--- last row has itself below it, as the nearest. Assumes nothing.
+-- above and at hold row y, if there is one, and the row before it, or row 0 where there is none. The measure is what is left of the
+-- rows. Assumes nothing.
 use mathlib.Core.Path.{_≡_, refl, sym, ap, _∙_}
 use mathlib.Core.List.{List}
 use Prim.Native.Nat.{ℕ, _+_, _-_, _*_, _≤_, _<_, min}
-use native.Mathlib.Nat.{zero-mul}
+use native.Mathlib.Nat.{zero-mul, lt-of-mul-lt-mul-left}
 use native.Mathlib.Omega.{arith}
 use lib.ListN.{length, take}
 use lib.Seq.{take-all}
@@ -12,43 +12,44 @@ use borrow.Author.Needs.{needs}
 use Rattle.kernel.specs.declared.Kernel.{Kernel}
 use Rattle.image.specs.Image.{rows}
 use Rattle.row_core.specs.Prepared.{kernelOfCoefficients}
-use Rattle.row_core.specs.Rows.{paddedOf, AllPixels, part}
-use Rattle.row_core.proofs.Pixels.{part-pixels, padded-pixels}
-use Rattle.row_core.proofs.Rows.{length-part, lineOf, length-row, row-inside, by-lines}
+use Rattle.row_core.specs.Rows.{paddedOf, AllDoubled, part}
+use Rattle.row_core.proofs.Pixels.{part-pixels, padded-doubled}
+use Rattle.row_core.proofs.Rows.{lineOf, length-row, row-inside, by-lines}
 use Rattle.stepping.specs.Buffers.{Loaded}
 use Rattle.stepping.specs.declared.Window.{Window}
 use Rattle.stepping.proofs.Buffers.{store-row}
-use Rattle.stepping.proofs.Windows.{inside, load-below, move-down}
+use Rattle.stepping.proofs.Windows.{inside}
+use Rattle.stepping.proofs.Whole.{least-line}
 use Rattle.stepping.proofs.step_through.Statement.{statement}
 use Rattle.stepping.proofs.step_through.Tie as tie
 
-record Progress (k : Kernel) (w h last : ℕ) (source d₀ d b₀ b : List ℕ) (v : Window) (i y : ℕ) : Type 0 where
-  within : y ≤ last
+record Progress (k : Kernel) (w h : ℕ) (source d₀ d b₀ b : List ℕ) (v : Window) (i y : ℕ) : Type 0 where
+  within : y ≤ h
   row : i ≡ y * w
   size : length d ≡ length d₀
   room : length b ≡ length b₀
-  loaded : Loaded b v w (part ((y - 1) * w) w source) (part (y * w) w source)
+  loaded : y < h → Loaded b v w (part ((y - 1) * w) w source) (part (y * w) w source)
   done : take i d ≡ rows y (lineOf k w h source)
 
 abbrev Inv-loop : tie.InvT-loop
-Inv-loop source target₀ lines₀ width height coefficients last window₀ row₀ y₀ target lines window row y =
-    Progress (kernelOfCoefficients coefficients) width height last source target₀ target lines₀ lines window row y
+Inv-loop source target₀ lines₀ width height coefficients window₀ row₀ y₀ target lines window row y =
+    Progress (kernelOfCoefficients coefficients) width height source target₀ target lines₀ lines window row y
 
 abbrev μ-loop : tie.MeasureT-loop
-μ-loop source target₀ lines₀ width height coefficients last window₀ row₀ y₀ target lines window row y = last - y
+μ-loop source target₀ lines₀ width height coefficients window₀ row₀ y₀ target lines window row y = height - y
 
--- a padded row of the source holds pixels
-pixels-of : (c : tie.At-loop Inv-loop μ-loop) (i : ℕ) → AllPixels (paddedOf (part i (c .before .before .before .before .before .before .before .before .args .width) (c .before .before .before .before .before .before .before .before .args .source .now)))
-pixels-of c i =
+-- what the line of a row of the source holds
+doubled-of : (c : tie.At-loop Inv-loop μ-loop) (i : ℕ) → AllDoubled (paddedOf (part i (c .before .before .before .before .before .before .before .before .args .width) (c .before .before .before .before .before .before .before .before .args .source .now)))
+doubled-of c i =
     let a = c .before .before .before .before .before .before .before .before .args in
-    padded-pixels (part i (a .width) (a .source .now)) (part-pixels i (a .width) (a .source .now) (λ j. omega (arith, c .before .before .before .before .before .before .before .shared-slice-known .given j)))
+    padded-doubled (part i (a .width) (a .source .now)) (part-pixels i (a .width) (a .source .now) (λ j. omega (arith, c .before .before .before .before .before .before .before .shared-slice-known .given j)))
 
--- the same row by another count
-again : (w : ℕ) {i j n : ℕ} → n ≡ i * w → i ≡ j → n ≡ j * w
-again w e q = e ∙ ap (λ (i : ℕ). i * w) q
-
-sub-last : tie.Need-sub-last Inv-loop μ-loop
-sub-last c = search needs
+-- the row nearest below row y
+lowest : (w h y n i : ℕ) → 1 ≤ h → n ≡ w * h → i ≡ y * w → min (i + w) (n - w) ≡ min (y + 1) (h - 1) * w
+lowest w h y n i some source row =
+    let split : w * h ≡ w * (h - 1 + 1) = ap (λ (m : ℕ). w * m) (omega arith) in
+    let end : n - w ≡ (h - 1) * w = omega (arith, source, split) in
+    rw (row, end) (least-line w y (h - 1))
 
 load-first-requires : tie.Need-load-first-requires Inv-loop μ-loop
 load-first-requires c κs =
@@ -60,31 +61,51 @@ unfolding rows
 loop-holds c =
     let w = c .before .before .before .before .before .before .before .args .width in
     let first = c .before .before .load-first in
-    let z : 0 ≡ 0 * w = sym (zero-mul w) in
     record {
       within = omega arith;
-      row = z;
+      row = sym (zero-mul w);
       size = refl;
       room = refl;
-      loaded = rw zero-mul (first .ensures);
+      loaded = λ l. rw zero-mul (first .ensures);
       done = refl;
     }
 
-step-inner-row-requires : tie.Need-step-inner-row-requires Inv-loop μ-loop
-step-inner-row-requires c κs =
-    let s = c .before .before .before .before .before .before .before .before .before .before .before in
+load-below-requires : tie.Need-load-below-requires Inv-loop μ-loop
+load-below-requires c κs =
+    let s = c .before .before .before .before .before .before .before .before .before .before in
     let a = s .args in
-    let l = c .before .before .before .loop in
-    let next = row-inside (a .width) (a .height) (l .y + 1) (omega (arith, s .pre)) in (
+    let p = s .pre .1 .0 in
+    let l = c .before .before .loop in
+    let low : l .y < a .height = omega arith in
+    let loaded = l .inv .loaded low in
+    record {
+      some = p .wide;
+      row = omega (arith, row-inside (a .width) (a .height) (l .y) low, l .inv .row, p .source);
+      next = λ h.
+          let more : l .y + 1 < a .height = lt-of-mul-lt-mul-left (a .width) (omega (arith, h, l .inv .row, p .source)) in
+          omega (arith, row-inside (a .width) (a .height) (l .y + 1) more, l .inv .row, p .source);
+      slots = loaded .slots;
+      at = rw (l .inv .row) (loaded .at);
+    }
+
+step-row-requires : tie.Need-step-row-requires Inv-loop μ-loop
+step-row-requires c κs =
+    let s = c .before .before .before .before .before .before .before .before .before .before .before .before .before .before .before in
+    let a = s .args in
+    let p = s .pre .1 .0 in
+    let at-loop = c .before .before .before .before .before .before .before in
+    let l = at-loop .loop in
+    let b = c .before .before .before .before .load-below in
+    let holds = b .ensures .0 in
+    let low : l .y < a .height = omega (arith, c .before .before .before .before .before .before .loop-test .taken) in
+    let loaded = l .inv .loaded low in (
       s .pre .0,
-      record {
-        some = s .pre .1 .0 .wide;
-        next = omega (arith, s .pre .1 .0);
-        row = omega (arith, s .pre .1 .0);
-        slots = l .inv .loaded .slots;
-        above = rw (l .inv .loaded .above) (pixels-of (c .before .before .before) ((l .y - 1) * a .width));
-        at = rw (l .inv .loaded .at) (pixels-of (c .before .before .before) (l .y * a .width));
-      },
+      inside (b .last .1 .0) (b .result) (length (l .target)) (l .row) (a .width)
+          (holds .above-inside) (holds .at-inside) (holds .below-inside)
+          (rw (holds .above, loaded .above) (doubled-of at-loop ((l .y - 1) * a .width)))
+          (rw (holds .at) (doubled-of at-loop (l .row)))
+          (rw (holds .below) (doubled-of at-loop (min (l .row + a .width) (length (a .source .now) - a .width))))
+          (omega (arith, row-inside (a .width) (a .height) (l .y) low, l .inv .row, l .inv .size, p .target)),
     )
 
 down-requires : tie.Need-down-requires Inv-loop μ-loop
@@ -92,12 +113,14 @@ down-requires c κs = search needs
 
 add-row : tie.Need-add-row Inv-loop μ-loop
 add-row c =
-    let s = c .before .before .before .before .before .before .before .before .before .before .before .before .before .before .before .before .before in
-    let l = c .before .before .before .before .before .before .before .before .before .loop in
+    let s = c .before .before .before .before .before .before .before .before .before .before .before .before .before .before .before .before .before .before .before in
+    let l = c .before .before .before .before .before .before .before .before .before .before .before .loop in
     omega (arith, row-inside (s .args .width) (s .args .height) (l .y) (omega arith), l .inv .row, s .pre .1 .0, s .good)
 
 add-y : tie.Need-add-y Inv-loop μ-loop
-add-y c = search needs
+add-y c =
+    let s = c .before .before .before .before .before .before .before .before .before .before .before .before .before .before .before .before .before .before .before in
+    omega (arith, s .good)
 
 loop-less : tie.Need-loop-less Inv-loop μ-loop
 loop-less c = search needs
@@ -105,52 +128,31 @@ loop-less c = search needs
 loop-again : tie.Need-loop-again Inv-loop μ-loop
 unfolding lineOf
 loop-again c =
-    let s = c .before .before .before .before .before .before .before .before .before .before .before .before .before .before .before .before .before in
+    let s = c .before .before .before .before .before .before .before .before .before .before .before .before .before .before .before .before .before .before .before in
     let a = s .args in
-    let l = c .before .before .before .before .before .before .before .before .before .loop in
+    let p = s .pre .1 .0 in
+    let l = c .before .before .before .before .before .before .before .before .before .before .before .loop in
     let k = kernelOfCoefficients (a .coefficients) in
-    let r = c .before .before .before .before .before .step-inner-row in
-    let y : l .y < a .height - 1 = omega arith in
-    let inside = row-inside (a .width) (a .height) (l .y) (omega arith) in
-    let next-inside = row-inside (a .width) (a .height) (l .y + 1) (omega arith) in
+    let b = c .before .before .before .before .before .before .before .before .load-below in
+    let holds = b .ensures .0 in
+    let r = c .before .before .before .step-row in
+    let low : l .y < a .height = omega (arith, c .before .before .before .before .before .before .before .before .before .before .loop-test .taken) in
+    let loaded = l .inv .loaded low in
+    let here : l .y + 1 - 1 ≡ l .y = omega arith in
     let next : l .row + a .width ≡ (l .y + 1) * a .width = omega (arith, l .inv .row) in
-    let lowest : l .row + a .width ≡ min (l .y + 1) (a .height - 1) * a .width = again (a .width) next (omega arith) in
-    let y1 : l .y + 1 - 1 ≡ l .y = omega arith in
-    let row : ℕ → List ℕ = λ i. part i (a .width) (a .source .now) in
-    let below = load-below (l .lines) (l .window) (a .width) (row (l .row + a .width)) (l .inv .loaded .slots)
-    (length-part (l .row + a .width) (a .width) (a .source .now) (omega (arith, s .pre .1 .0 .source))) (r .ensures .0) in
     record {
       within = omega arith;
       row = next;
-      size = r .kept .1 .1 .1 .0 ∙ l .inv .size;
-      room = r .kept .1 .0 ∙ l .inv .room;
-      loaded =
-          rw (y1, ← next)
-          (move-down (l .lines) (c .before .before .before .before .before .step-inner-row .last .1 .0) (l .window) (c .down .result) (a .width) (row ((l .y - 1) * a .width)) (row (l .y * a .width)) (row (l .row + a .width))
-          (l .inv .loaded) below (c .down .ensures));
+      size = r .kept .1 .1 .0 ∙ l .inv .size;
+      room = b .ensures .1 .0 ∙ l .inv .room;
+      loaded = λ more.
+          rw (here, ← l .inv .row, ← next)
+          (b .ensures .1 .1 (omega (arith, row-inside (a .width) (a .height) (l .y + 1) more, l .inv .row, p)) (c .down .result) (c .down .ensures));
       done =
-          store-row (l .y) (l .row) (a .width) (lineOf k (a .width) (a .height) (a .source .now)) (l .target) (omega (arith, l .inv .row, l .inv .size, s .pre .1 .0 .target)) (length-row k (a .width) _ _ _) (l .inv .done)
-          (rw (l .inv .loaded .above, l .inv .loaded .at, lowest)) (r .ensures .1);
+          store-row (l .y) (l .row) (a .width) (lineOf k (a .width) (a .height) (a .source .now)) (l .target)
+          (omega (arith, row-inside (a .width) (a .height) (l .y) low, l .inv .row, l .inv .size, p .target)) (length-row k (a .width) _ _ _) (l .inv .done)
+          (rw (holds .above, holds .at, holds .below, loaded .above, lowest (a .width) (a .height) (l .y) (length (a .source .now)) (l .row) (p .high) (p .source) (l .inv .row), l .inv .row)) (r .ensures);
     }
-
-bottom-requires : tie.Need-bottom-requires Inv-loop μ-loop
-bottom-requires c κs = search needs
-
-step-row-requires : tie.Need-step-row-requires Inv-loop μ-loop
-step-row-requires c κs =
-    let s = c .before .before .before .before .before .before .before .before .before .before .before .before in
-    let a = s .args in
-    let l = c .before .before .before .before .loop in
-    let v = c .before .bottom in
-    let slots = l .inv .loaded .slots in
-    let above : AllPixels (part (l .window .above) (a .width + 2) (l .lines)) = rw (l .inv .loaded .above) (pixels-of (c .before .before .before .before) ((l .y - 1) * a .width)) in
-    let at : AllPixels (part (l .window .at) (a .width + 2) (l .lines)) = rw (l .inv .loaded .at) (pixels-of (c .before .before .before .before) (l .y * a .width)) in (
-      s .pre .0,
-      inside (l .lines) (v .result) (length (l .target)) (l .row) (a .width)
-          (rw (v .ensures .0) (slots .above)) (rw (v .ensures .1) (slots .at)) (rw (v .ensures .2) (slots .at))
-          (rw (v .ensures .0) above) (rw (v .ensures .1) at) (rw (v .ensures .2) at)
-          (omega (arith, row-inside (a .width) (a .height) (l .y) (omega (arith, s .pre)), l .inv .row, l .inv .size, s .pre .1 .0 .target)),
-    )
 
 same-length : tie.Need-same-length Inv-loop μ-loop
 same-length c = search needs
@@ -159,23 +161,17 @@ same-length-2 : tie.Need-same-length-2 Inv-loop μ-loop
 same-length-2 c = search needs
 
 returns : tie.Need-returns Inv-loop μ-loop
-unfolding lineOf
 returns c =
-    let s = c .before .before .before .before .before .before .before .before .before .before .before .before .before .before .before in
+    let s = c .before .before .before .before .before .before .before .before .before in
     let a = s .args in
-    let l = c .before .before .before .before .before .before .before .loop in
+    let l = c .before .loop in
     let k = kernelOfCoefficients (a .coefficients) in
-    let v = c .before .before .before .before .bottom in
-    let r = c .before .before .step-row in
     let f = lineOf k (a .width) (a .height) (a .source .now) in
-    let y : l .y + 1 ≡ a .height = omega (arith, s .pre .1 .0) in
-    let end : l .row + a .width ≡ a .width * a .height = omega (arith, ap (λ (n : ℕ). a .width * n) y, l .inv .row) in
-    let lowest : l .y * a .width ≡ min (l .y + 1) (a .height - 1) * a .width = ap (λ (n : ℕ). n * a .width) (omega arith) in
-    sym (take-all (l .row + a .width) (r .last .1 .1 .0) (omega (arith, r .kept .1 .1 .0, l .inv .size, s .pre .1 .0 .target)))
-    ∙ store-row (l .y) (l .row) (a .width) f (l .target) (omega (arith, l .inv .size, s .pre .1 .0 .target)) (length-row k (a .width) _ _ _) (l .inv .done)
-    (rw (v .ensures .0, v .ensures .1, v .ensures .2, l .inv .loaded .above, l .inv .loaded .at, lowest)) (r .ensures)
+    let y : l .y ≡ a .height = omega (arith, l .inv .within) in
+    sym (take-all (l .row) (l .target) (omega (arith, ap (λ (n : ℕ). a .width * n) y, l .inv .row, l .inv .size, s .pre .1 .0 .target)))
+    ∙ l .inv .done
     ∙ ap (λ (n : ℕ). rows n f) y
-    ∙ by-lines k (a .width) (a .height) (a .source .now) (s .pre .1 .0 .wide) (s .pre .1 .0 .source)
+    ∙ by-lines k (s .pre .0 .steps) (s .pre .0 .sound) (a .width) (a .height) (a .source .now) (s .pre .1 .0 .wide) (s .pre .1 .0 .source)
 
 pub step-through-spec : {M : Type 1} → statement M
 step-through-spec =
@@ -183,17 +179,15 @@ step-through-spec =
     (tie.spec
     Inv-loop
     μ-loop
-    sub-last
     load-first-requires
     loop-holds
-    step-inner-row-requires
+    load-below-requires
+    step-row-requires
     down-requires
     add-row
     add-y
     loop-less
     loop-again
-    bottom-requires
-    step-row-requires
     same-length
     same-length-2
     returns)

@@ -2,7 +2,7 @@
 use Prim.Native.Nat.{_≤_}
 use native.Mathlib.Omega.{arith}
 use borrow.Author.Needs.{needs}
-use Rattle.stepping.proofs.Whole.{lines-pixels}
+use Rattle.stepping.proofs.Whole.{lines-doubled}
 use Rattle.stepping.proofs.step_whole.Statement.{statement}
 use Rattle.stepping.proofs.step_whole.Tie as tie
 
@@ -21,7 +21,7 @@ step-all-requires c κs =
         high = p .high;
         room = holds .room;
         target = p .target;
-        pixels = lines-pixels _ (a .source .now) (a .width) (a .height) holds (λ j. omega (arith, c .before .before .before .before .before .before .before .before .shared-slice-known .given j));
+        doubled = lines-doubled _ (a .source .now) (a .width) (a .height) holds (λ j. omega (arith, c .before .before .before .before .before .before .before .before .shared-slice-known .given j));
       },
     )
 

@@ -1,4 +1,4 @@
--- `stepping::step_row` meets its contract: the parts that it lends are the window's lines and a row of the target, and what comes
+-- `stepping::step_row_with` meets its contract: the parts that it lends are the window's lines and a row of the target, and what comes
 -- back stands where the row was taken. Assumes nothing.
 use mathlib.Core.Path.{_∙_}
 use Prim.Native.Nat.{_+_}
@@ -8,8 +8,8 @@ use Rattle.row_core.specs.Rows.{part}
 use Rattle.row_core.proofs.Rows.{length-part, length-row}
 use Rattle.stepping.proofs.Buffers.{placed}
 use borrow.Author.Needs.{needs}
-use Rattle.stepping.proofs.step_row.Statement.{statement}
-use Rattle.stepping.proofs.step_row.Tie as tie
+use Rattle.stepping.proofs.step_row_with.Statement.{statement}
+use Rattle.stepping.proofs.step_row_with.Tie as tie
 
 add-size : tie.Need-add-size
 add-size c = search needs
@@ -94,8 +94,8 @@ returns c =
     placed (a .row) (a .width) (a .target .now) (c .before .before .smooth-row .ensures ∙ simp (add-sub-cancel-left, e))
     (length-row k (a .width) (part (a .window .above) size (a .lines .now)) (part (a .window .at) size (a .lines .now)) (part (a .window .below) size (a .lines .now)))
 
-pub step-row-spec : {M : Type 1} → statement M
-step-row-spec =
+pub step-row-with-spec : {M : Type 1} → statement M
+step-row-with-spec =
     tie.close
     (tie.spec
     add-size

@@ -1,0 +1,202 @@
+//! Kernels of every kind, by which products a step makes: weights that are 0, equal pairs, a centre of twice a side. Each is run over
+//! pictures that a step keeps in each of its ways, against the independent program, which has nine products for every kernel.
+
+mod common;
+
+use common::{inputs, times, CHOICES};
+use reference::generate::random_pixels;
+use reference::kernel::{kernel_by, Choice as ModelChoice, Covariance};
+use reference::random::Random;
+use reference::shape::Shape as ModelShape;
+use reference::smooth;
+use vokhsaot::{run_by, shown, Choice, Service, Shape};
+
+const KINDS: [&str; 13] = [
+    "no corner, equal sides",
+    "no corner",
+    "equal corners, equal sides, centre twice a side",
+    "equal corners, equal sides",
+    "equal corners, centre twice a pixel beside it",
+    "equal corners, centre twice a pixel above it",
+    "equal corners",
+    "the falling diagonal only",
+    "the rising diagonal only",
+    "no centre",
+    "centre twice a pixel beside it",
+    "centre twice a pixel above it",
+    "all five weights",
+];
+
+/// The kind of a kernel, by its weights.
+fn kind_of(weights: &[u64; 9]) -> usize {
+    let [falling, above, rising, beside, centre, ..] = *weights;
+    let (wide, tall) = (centre == 2 * beside, centre == 2 * above);
+    if falling == rising && beside == above {
+        return if falling == 0 {
+            0
+        } else {
+            3 - usize::from(wide)
+        };
+    }
+    if falling == rising {
+        return [falling == 0, wide, tall]
+            .iter()
+            .position(|&is| is)
+            .map_or(6, |place| [1, 4, 5][place]);
+    }
+    [rising == 0, falling == 0, centre == 0, wide, tall]
+        .iter()
+        .position(|&is| is)
+        .map_or(12, |place| 7 + place)
+}
+
+/// What is run: a covariance that has a kernel, its steps and a choice.
+#[derive(Clone, Copy, Debug)]
+struct Work {
+    covariance: Covariance,
+    steps: u32,
+    choice: (Choice, ModelChoice),
+}
+
+impl Work {
+    /// Any, often with an entry at one of its bounds or where f changes.
+    fn random(random: &mut Random) -> Option<(Work, usize)> {
+        let steps = random.pick(&[1, 2, 3, 4, 5, 8, 16, 33, 63, 64]);
+        let m = 4096 * i64::from(steps);
+        let third = random.between(-2, 2) + m / 3;
+        let half = random.between(-2, 2) + m / 2;
+        let any = random.between(0, m);
+        let xx = random.pick(&[0, 1, third, half, m - 1, m, any, any]);
+        let other = random.between(0, m);
+        let yy = random.pick(&[xx, xx, xx ^ 1, m - xx, third, other, other, other]);
+        let most = xx.min(yy);
+        let lean = random.between(0, most.max(0));
+        let xy = random.pick(&[0, 0, 0, 1, most, most - 1, lean, lean]);
+        let [xx, xy, yy] = [xx, random.pick(&[xy, -xy]), yy].map(|entry| entry as i32);
+        let covariance = Covariance { xx, xy, yy };
+        let choice = random.pick(&CHOICES);
+        let kernel = kernel_by(choice.1, covariance, steps).ok()?;
+        let work = Work {
+            covariance,
+            steps,
+            choice,
+        };
+        Some((work, kind_of(&kernel.weights)))
+    }
+
+    fn shape(&self) -> Shape {
+        let Covariance { xx, xy, yy } = self.covariance;
+        Shape::Matrix { xx, xy, yy }
+    }
+
+    /// What both leave of a picture, which has to be the same.
+    fn compare(&self, width: u32, height: u32, picture: &[u16]) -> Vec<u16> {
+        let (steps, blank) = (self.steps, vec![1; picture.len()]);
+        let (mut first, mut second) = (picture.to_vec(), blank.clone());
+        let (mut model_first, mut model_second) = (picture.to_vec(), blank);
+        let lent = (&mut first, &mut second);
+        run_by(
+            self.choice.0,
+            self.shape(),
+            steps,
+            width,
+            height,
+            lent.0,
+            lent.1,
+        )
+        .unwrap();
+        let shape = ModelShape::Matrix(self.covariance);
+        let lent = (&mut model_first, &mut model_second);
+        smooth::run_by(self.choice.1, shape, steps, width, height, lent.0, lent.1).unwrap();
+        assert_eq!(first, model_first, "{self:?} {width} {height}");
+        assert_eq!(second, model_second, "{self:?} {width} {height}");
+        shown(steps, &first, &second).to_vec()
+    }
+
+    /// The service hands the same over, if it goes by this choice and holds such a picture.
+    fn compare_job(&self, width: u32, height: u32, picture: &[u16], expected: &[u16]) -> bool {
+        if self.choice.0 != Choice::Smallest || picture.len() > 1024 {
+            return false;
+        }
+        let mut service = Service::new();
+        let number = service
+            .submit(self.shape(), self.steps, width, height, picture)
+            .unwrap();
+        while service.tick().unwrap().is_some() {}
+        let mut lent = vec![0; picture.len()];
+        assert_eq!(service.collect(number, &mut lent), Ok(number));
+        assert_eq!(lent, expected, "{self:?} {width} {height}");
+        true
+    }
+}
+
+/// Bright, dark, or any pixels; all white, so that sums are the largest.
+fn pixels(random: &mut Random, count: usize) -> Vec<u16> {
+    if random.once_in(8) {
+        return vec![65535; count];
+    }
+    random_pixels(random, count)
+}
+
+/// Runs over pictures of some sides until every kind was met so often, and answers how often jobs of the service were.
+fn every_kind(test: u64, often: u64, sides: fn(&mut Random) -> (u32, u32)) -> [u64; KINDS.len()] {
+    let mut random = inputs(test);
+    let (mut met, mut jobs) = ([0; KINDS.len()], [0; KINDS.len()]);
+    let often = times(often);
+    for _ in 0..often * 20_000 {
+        if met.iter().all(|&count| count >= often) {
+            break;
+        }
+        let Some((work, kind)) = Work::random(&mut random) else {
+            continue;
+        };
+        if met[kind] >= often {
+            continue;
+        }
+        met[kind] += 1;
+        let (width, height) = sides(&mut random);
+        let picture = pixels(&mut random, (width * height) as usize);
+        let left = work.compare(width, height, &picture);
+        jobs[kind] += u64::from(work.compare_job(width, height, &picture, &left));
+    }
+    for (kind, count) in KINDS.iter().zip(met) {
+        assert!(count >= often, "{kind}: {count} of {often}");
+    }
+    jobs
+}
+
+/// Pictures that are loaded whole into few lines, with rows that end inside a group of pixels that are made at a time.
+#[test]
+fn small_pictures() {
+    let jobs = every_kind(40, 4000, |random| {
+        let mut side = || random.between(1, 9) as u32;
+        (side(), side())
+    });
+    // By the smallest choice a kernel has no centre, or no corners on one diagonal, or equal ones.
+    for kind in [0, 1, 3, 6, 7, 8, 9] {
+        assert!(jobs[kind] > 100, "{}: {}", KINDS[kind], jobs[kind]);
+    }
+}
+
+/// Pictures that are loaded whole into all lines, and jobs with more than 64 rows.
+#[test]
+fn pictures_in_all_lines() {
+    every_kind(41, 200, |random| {
+        random.pick(&[(50, 50), (13, 77), (1, 1024), (7, 140), (1022, 3), (2, 512)])
+    });
+}
+
+/// Pictures that pass through three lines.
+#[test]
+fn pictures_row_by_row() {
+    every_kind(42, 200, |random| {
+        let height = random.between(4, 9) as u32;
+        random.pick(&[
+            (1024, 4),
+            (1023, 5),
+            (1021, height),
+            (61, 63),
+            (400, height + 4),
+        ])
+    });
+}
