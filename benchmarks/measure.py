@@ -63,7 +63,7 @@ def runner(folder, library, name):
 
 
 def definition(image, weights, total):
-    """One step as document 01 has it, in exact integers: the nearest pixel outside, nearest unit, halves up."""
+    """One step as docs/REFERENCE.md has it (R1), in exact integers: the nearest pixel outside, nearest unit, halves up."""
     padded = numpy.pad(image.astype(object), 1, mode="edge")
     h, w = image.shape
     summed = sum(weights[3 * j + i] * padded[j : j + h, i : i + w] for j in range(3) for i in range(3))
@@ -71,7 +71,7 @@ def definition(image, weights, total):
 
 
 def weights_of(shape, steps, choice=BINOMIAL):
-    """Document 01's formulas, and document 02's f for a caller who names no choice; none where there is no kernel."""
+    """The formulas K3 to K7 of docs/REFERENCE.md with the f of a choice; none where there is no kernel."""
     xx, xy, yy = shape
     m = 4096 * steps
     f = max(abs(xy), xx + yy - m)

@@ -19,7 +19,7 @@ mkdir -p "$work"
 build() { # NAME LIBRARY FLAGS..
     name=$1 library=$2
     shift 2
-    gcc -O3 -march=x86-64 -fPIC "$@" -shared -I "$root/rust/include" "$here/peers.c" "$library" -o "$work/$name.so"
+    gcc -O3 -march=x86-64 -fPIC "$@" -shared -I "$root/c/include" "$here/peers.c" "$library" -o "$work/$name.so"
 }
 own=$root/target/staticlib/libcapi.a
 build vector "$own"

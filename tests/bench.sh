@@ -1,5 +1,5 @@
 #!/usr/bin/env bash
-# The bench program on standard input, against the independent program: document 01's listing with document 02's answer and the
+# The bench program on standard input, against the independent program: case a's listing with S-2's answer and the
 # other cases whose kernels S-2 speaks of byte for byte, every refusal, reads that fail, the longest text and one byte more, in
 # pieces, and generated texts, damaged ones included.
 # Usage: bench.sh PROGRAM [COUNT]
@@ -24,7 +24,7 @@ printf 'K\t16\t1\t2\t1\t2\t4\t2\t1\t2\t1\nP\t3\t3\n100\t200\t100\n200\t400\t200\
 expect "the listing"
 cmp "$work/expected" crates/bench/stdout || { echo "bench: the stored output"; exit 1; }
 
-# Stored answers: case e, whose f is 2049, over one bright pixel, worked out from document 02's weights; an odd half rounded up, f
+# Stored answers: case e, whose f is 2049, over one bright pixel, worked out from S2.6's weights; an odd half rounded up, f
 # 1026; cases c and i, whose f is as it was.
 kernels=0
 while IFS='|' read -r name text answer; do

@@ -1,6 +1,7 @@
-//! The numbered refusals of document 01, and the checks that several calls share.
+//! The numbered refusals (N1 to N13 of docs/REFERENCE.md), and the checks that
+//! several calls share.
 
-/// A refusal's number in document 01's list.
+/// A refusal's number in that list.
 pub type ErrorCode = u8;
 
 /// The bench text is not a job.

@@ -1,4 +1,4 @@
-//! Document 02's S-1, written from its text alone: a peak does not rise in a
+//! Bright spots (S1.1 to S1.6 of docs/REFERENCE.md): a peak does not rise in a
 //! step and a hollow does not fall, and two pictures that differ by at most d
 //! still do after a run.
 //!

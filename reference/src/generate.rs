@@ -495,7 +495,7 @@ pub fn random_shape(random: &mut Random) -> (Shape, u32) {
     }
 }
 
-/// Document 01's case f: a shape that leans along (1, 1).
+/// Case f of docs/REFERENCE.md: a shape that leans along (1, 1).
 pub const LEANING: Covariance = Covariance {
     xx: 1000,
     xy: 1000,

@@ -1,6 +1,7 @@
 //! Kernels: whether one exists, and the nine weights of the molecule.
 //!
-//! Existence is not decided by document 01's short test but by its definition:
+//! Existence is not decided by the short test (K10 of docs/REFERENCE.md) but by
+//! the definition (K11 to K14):
 //! nine nonnegative weights, mirror-symmetric or not, of mean zero and second
 //! moments xx/M, xy/M, yy/M. These are six linear equations in nine unknowns
 //! that may not be negative. Where they can be solved at all, they can be
@@ -49,16 +50,16 @@ pub struct Kernel {
     pub sum: u64,
 }
 
-/// Which free number f a kernel takes (document 02's S-2). Kernels exist for
-/// the same shapes by either choice.
+/// Which free number f a kernel takes (docs/REFERENCE.md, "The choice of f").
+/// Kernels exist for the same shapes by either choice.
 #[derive(Clone, Copy, Debug, Default, PartialEq, Eq)]
 pub enum Choice {
-    /// S-2's rule, for a caller who names no choice. Its name is that of the
-    /// paper's binomial kernel (equation 81), which it gives for case a and
+    /// S-2's rule (S2.1), for a caller who names no choice. Its name is that of
+    /// the paper's binomial kernel (equation 81), which it gives for case a and
     /// which has twice the weight in the centre that it has beside it.
     #[default]
     Binomial,
-    /// Document 01's f, the smallest with which no weight is negative.
+    /// The smallest f with which no weight is negative (K9).
     Smallest,
 }
 
@@ -288,13 +289,13 @@ pub fn free_number_by(choice: Choice, xx: i64, xy: i64, yy: i64, m: i64) -> i64 
     }
 }
 
-/// The numbers f with which none of document 01's nine weights is negative; an
+/// The numbers f with which none of the molecule's nine weights is negative; an
 /// empty range where no kernel exists.
 pub fn free_numbers(xx: i64, xy: i64, yy: i64, m: i64) -> RangeInclusive<i64> {
     free_number(xx, xy, yy, m)..=xx.min(yy)
 }
 
-/// The nine weights over 4 × m by document 01's formulas with a free number f,
+/// The nine weights over 4 × m by the formulas K3 to K7 with a free number f,
 /// whatever their signs.
 pub fn molecule_with(f: i64, xx: i64, xy: i64, yy: i64, m: i64) -> [i64; 9] {
     OFFSETS.map(|offset| match offset {

@@ -1,9 +1,9 @@
 //! Reference program for the picture smoother.
 //!
-//! It is written from document 01 and from document 02's S-1 ([`extrema`]) and
-//! S-2 ([`kernel::Choice`]) alone and shares no code with the proved program, so
-//! that a mistake in one of them shows as a difference between the two. It prefers the plainest
-//! way to a result over the quickest one, and where document 01 gives both a
+//! It is written from the specification alone (docs/REFERENCE.md), never from
+//! the proved code, and shares none with it, so that a mistake in one of them
+//! shows as a difference between the two. It prefers the plainest way to a
+//! result over the quickest one, and where the specification gives both a
 //! definition and a shorter test it uses the definition (the existence of a
 //! kernel) and leaves the shorter test to the tests.
 //!

@@ -2,7 +2,8 @@
 //! opening on, and every sentence of the demand, put together from the calls
 //! and their answers alone.
 //!
-//! A job's kernel is the smallest choice's of document 02's S-2, until S-3.
+//! A job's kernel is the smallest choice's (S2.11 of docs/REFERENCE.md), until
+//! S-3.
 
 use crate::error_code::ErrorCode;
 use crate::generate::{random_pixels, random_shape};

@@ -1,11 +1,11 @@
-//! The service: eight slots (document 01's seats) over a buffer pool (its
-//! store), filled and served by round robin.
+//! The service: eight slots (the seats of docs/REFERENCE.md) over a buffer pool
+//! (its store), filled and served by round robin.
 //!
 //! Submit, tick and collect are lent the store and check its length with the
 //! record (refusal 2); withdraw and the free count are not lent it.
 //!
-//! Its jobs go by the smallest choice of document 02's S-2, until S-3 gives the
-//! record a field that can hold a choice.
+//! Its jobs go by the smallest choice (S2.11), until S-3 gives the record a
+//! field that can hold a choice.
 
 use crate::error_code::{
     check_length, check_sides, check_steps, require, ErrorCode, JOB_UNFINISHED, NO_FREE_BUFFERS,

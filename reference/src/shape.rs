@@ -14,7 +14,7 @@ pub struct Direction {
     pub sine: f64,
 }
 
-/// A shape of document 01.
+/// A shape (H1 to H6 of docs/REFERENCE.md).
 #[derive(Clone, Copy, Debug)]
 pub enum Shape {
     /// The covariance itself.

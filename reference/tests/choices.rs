@@ -1,6 +1,7 @@
-//! Document 02's S-2: the f of each choice, held by a definition of its own
-//! over all small covariances; that both choices give kernels of the same
-//! shapes with the same refusals; and that no choice named is S-2's rule.
+//! S-2 (docs/REFERENCE.md, "The choice of f"): the f of each choice, held by a
+//! definition of its own over all small covariances; that both choices give
+//! kernels of the same shapes with the same refusals; and that no choice named
+//! is S-2's rule.
 
 use reference::extrema::differ_at_most;
 use reference::generate::{

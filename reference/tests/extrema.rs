@@ -1,6 +1,6 @@
-//! Document 02's S-1 on random runs, rounded and exact, with the free numbers of
-//! both choices and others that a kernel may have; and steps with a fault, which
-//! the checks find.
+//! S-1 (S1.1 to S1.6 of docs/REFERENCE.md) on random runs, rounded and exact,
+//! with the free numbers of both choices and others that a kernel may have; and
+//! steps with a fault, which the checks find.
 
 use reference::extrema::{
     differ_at_most, enhanced, exact_differ_at_most, is_hollow, is_peak, neighbours,
@@ -299,7 +299,7 @@ fn nearest_place(place: i64, side: i64) -> i64 {
     place.clamp(0, side - 1)
 }
 
-/// The step of document 01.
+/// The right step (R1).
 const RIGHT: Step = Step {
     inside: nearest_place,
     divided: nearest,

@@ -1,4 +1,5 @@
-//! The existence of kernels: the definition against document 01's short test.
+//! The existence of kernels: the definition (K11 to K14 of docs/REFERENCE.md)
+//! against the short test (K10).
 
 use reference::generate::{listed_covariances, random_covariance};
 use reference::kernel::{
@@ -7,7 +8,7 @@ use reference::kernel::{
 };
 use reference::random::Random;
 
-/// Document 01's short test.
+/// The short test.
 fn short_test(xx: i64, xy: i64, yy: i64, m: i64) -> bool {
     free_number(xx, xy, yy, m) <= xx.min(yy)
 }

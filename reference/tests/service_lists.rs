@@ -99,8 +99,8 @@ fn a_tick_is_one_step_from_buffer_to_buffer() {
     assert_eq!(store, expected);
 }
 
-/// Case a by the service: document 01's pixels and not document 02's, since a
-/// record holds no choice before S-3.
+/// Case a by the service: the smallest choice's pixels and not those of S-2's
+/// rule, since a record holds no choice before S-3.
 #[test]
 fn jobs_go_by_the_smallest_choice() {
     let mut record = opening();

@@ -1,6 +1,6 @@
-//! The pictures worked through in document 01, cases a to k, as document 02's
-//! S-2 has them: a and e changed for a caller who names no choice, and as they
-//! were for one who names the smallest; the others are the same for both.
+//! The pictures worked through in docs/REFERENCE.md, cases a to k: a and e by
+//! both choices, that of a caller who names none and the smallest; the others
+//! are the same for both.
 
 use reference::job_text::answer;
 use reference::kernel::{free_number_by, kernel_by, Choice, Covariance, Kernel, UNITS};
@@ -26,7 +26,7 @@ fn smoothed(choice: Choice, shape: Shape, steps: u32, width: u32, pixels: &[u16]
 
 /// Case a's picture.
 const BRIGHT: [u16; 9] = [0, 0, 0, 0, 1600, 0, 0, 0, 0];
-/// Its pixels after the step, by document 02 and by document 01.
+/// Its pixels after the step, by S-2's rule and by the smallest choice.
 const FILLED: [u16; 9] = [100, 200, 100, 200, 400, 200, 100, 200, 100];
 const HOLLOW: [u16; 9] = [0, 400, 0, 400, 0, 400, 0, 400, 0];
 

@@ -1,22 +1,54 @@
-//! The thirteen numbered refusals.
+//! The thirteen numbered refusals (docs/REFERENCE.md, "Refusals in checking order").
 
 use std::fmt;
 
-/// A refusal: a call that is refused changes nothing.
+/// A refusal. A call that is refused has changed nothing: no record, no store and nothing that it was lent.
+///
+/// There are thirteen, in checking order: each call checks those that concern it in this order and answers the first that applies.
+/// `Display` writes the refusal's sentence, the one that the C header's `vokhsaot_refusal_text` has.
+///
+/// ```
+/// use vokhsaot::{kernel, Error, Shape};
+///
+/// let refusal = kernel(Shape::Round(2.0), 1).unwrap_err();
+/// assert_eq!(refusal, Error::NoKernel);
+/// assert_eq!(refusal.number(), 11);
+/// assert_eq!(refusal.to_string(), "No kernel exists.");
+/// ```
 #[derive(Clone, Copy, Debug, PartialEq, Eq, Hash)]
 pub enum Error {
+    /// 1: a text is not the one spelling of a job, or is too long. It stands in an answer of [`answer_text`](crate::answer_text),
+    /// and no call of this crate returns it.
     TextIsNoJob,
+    /// 2: the record of a service is not in order, or, in the calls that work in the store
+    /// ([`submit`](crate::Service::submit), [`tick`](crate::Service::tick), [`collect`](crate::Service::collect)), the store's
+    /// length is not [`STORE_PIXELS`](crate::STORE_PIXELS). The calls leave every record in order: words and stores from elsewhere
+    /// ([`from_parts`](crate::Service::from_parts)) are refused with it.
     RecordOutOfOrder,
+    /// 3: a variance of a [`Round`](crate::Shape::Round) or an [`Oval`](crate::Shape::Oval) is not a number or lies outside 0 to
+    /// 64. A [`Matrix`](crate::Shape::Matrix) never meets this.
     VarianceOutOfRange,
+    /// 4: a cosine or sine is not a number or lies outside −1 to 1, or the sum of their squares lies outside 1023/1024 to
+    /// 1025/1024.
     NotADirection,
+    /// 5: the steps are not 1 to 64.
     StepsOutOfRange,
+    /// 6: a width or height is not 1 to 1024.
     SideOutOfRange,
+    /// 7: no seat has this job number: none was given it, or the job was collected or withdrawn. No job has the number 0.
     NoSuchJob,
+    /// 8: the job that is to be collected has steps left.
     StepsAreLeft,
+    /// 9: the length of a lent picture or result is not width × height.
     WrongLength,
+    /// 10: a submitted picture has more than [`BUFFER_PIXELS`](crate::BUFFER_PIXELS) pixels.
     TooManyPixels,
+    /// 11: the shape has no kernel with so many steps: |xy| is more than the smaller of xx and yy, or the larger of them is more than
+    /// 4096 × steps. In the first case no number of steps has one.
     NoKernel,
+    /// 12: fewer than two buffers are free, so all eight seats hold jobs.
     NoFreeBuffers,
+    /// 13: the last job number given is 2^64 − 1.
     NumbersUsedUp,
 }
 
@@ -42,7 +74,7 @@ impl Error {
         self as u32 + 1
     }
 
-    /// The refusal of this number.
+    /// The refusal of this number; `None` where it is not 1 to 13.
     pub fn from_number(number: u32) -> Option<Error> {
         ALL.into_iter().find(|error| error.number() == number)
     }
@@ -65,7 +97,7 @@ impl fmt::Display for Error {
             Error::SideOutOfRange => "A width or height is not 1 to 1024.",
             Error::NoSuchJob => "No seat has this job number.",
             Error::StepsAreLeft => "The job has steps left.",
-            Error::WrongLength => "A lent picture's length is not w × h.",
+            Error::WrongLength => "A lent picture's length is not w × h, or another lent slice has a wrong length.",
             Error::TooManyPixels => "A submitted picture has more than 1024 pixels.",
             Error::NoKernel => "No kernel exists.",
             Error::NoFreeBuffers => "Fewer than two buffers are free.",

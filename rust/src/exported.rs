@@ -36,8 +36,8 @@ extern "C" {
         words_len: usize,
         store: *mut u16,
         store_len: usize,
-        long: f64,
-        short: f64,
+        long_variance: f64,
+        short_variance: f64,
         cosine: f64,
         sine: f64,
         steps: u32,
@@ -68,8 +68,8 @@ extern "C" {
     pub fn vokhsaot_free_count(words: *const u64, words_len: usize, count: *mut u32) -> u32;
     pub fn vokhsaot_covariance_round(variance: f64, entries: *mut i32, entries_len: usize) -> u32;
     pub fn vokhsaot_covariance_oval(
-        long: f64,
-        short: f64,
+        long_variance: f64,
+        short_variance: f64,
         cosine: f64,
         sine: f64,
         entries: *mut i32,
@@ -93,8 +93,8 @@ extern "C" {
     ) -> u32;
     pub fn vokhsaot_kernel_oval_by(
         choice: u32,
-        long: f64,
-        short: f64,
+        long_variance: f64,
+        short_variance: f64,
         cosine: f64,
         sine: f64,
         steps: u32,
@@ -127,8 +127,8 @@ extern "C" {
     ) -> u32;
     pub fn vokhsaot_run_oval_by(
         choice: u32,
-        long: f64,
-        short: f64,
+        long_variance: f64,
+        short_variance: f64,
         cosine: f64,
         sine: f64,
         steps: u32,
@@ -139,6 +139,7 @@ extern "C" {
         second: *mut u16,
         second_len: usize,
     ) -> u32;
+    pub fn vokhsaot_shown(steps: u32, picture: *mut u32) -> u32;
     pub fn vokhsaot_first_x(
         pixels: *const u16,
         pixels_len: usize,
@@ -265,6 +266,22 @@ mod tests {
             };
             assert_eq!(centres(choice), [centre; 3], "{choice}");
             assert_eq!(pictures(choice), [picture; 3], "{choice}");
+        }
+    }
+
+    /// Which picture is shown is 0 or 1 by the steps' parity; where the steps are refused, the number keeps its value.
+    #[test]
+    fn pictures_shown() {
+        for steps in (0..=130).chain([255, 256, 1 << 31, u32::MAX]) {
+            let mut picture = 7;
+            // SAFETY: the pointer is of a number of its own.
+            let code = unsafe { vokhsaot_shown(steps, &mut picture) };
+            let expected = if (1..=64).contains(&steps) {
+                (0, steps % 2)
+            } else {
+                (5, 7)
+            };
+            assert_eq!((code, picture), expected, "{steps}");
         }
     }
 

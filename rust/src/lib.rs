@@ -1,39 +1,112 @@
-//! The proved picture smoother. Each call is one exported function of the static library `capi`; this crate adds types,
-//! and nothing that is computed.
+//! The proved picture smoother, called from Rust.
 //!
-//! A call answers, or refuses with an [`Error`] and then has changed nothing.
+//! Each call is one exported function of a static library that is proved in Rattle: for every input it answers as its specification
+//! says, or refuses with an [`Error`] and then has changed nothing. No call panics where its page does not say so. What is promised
+//! stands in the repository's docs/REFERENCE.md, sentence by sentence, and docs/CLAIMS.md leads from each sentence to its proof. This
+//! crate adds types and memory. It computes two things by itself, which tests hold and no proof: [`Direction::from_degrees`], and the
+//! [`Job`]s that it reads from a record's words.
+//!
+//! # A picture in, a smoothed picture out
+//!
+//! ```
+//! use vokhsaot::{smooth, smooth_by, Choice, Shape};
+//!
+//! let spot = [0, 0, 0, 0, 1600, 0, 0, 0, 0];
+//! // A variance of half a square pixel in all directions, in one step, over 3 × 3 pixels.
+//! let shape = Shape::Round(0.5);
+//! assert_eq!(smooth(shape, 1, 3, 3, &spot)?, [100, 200, 100, 200, 400, 200, 100, 200, 100]);
+//! // The same shape by the choice "smallest", whose kernel has a hollow centre here.
+//! assert_eq!(smooth_by(Choice::Smallest, shape, 1, 3, 3, &spot)?, [0, 400, 0, 400, 0, 400, 0, 400, 0]);
+//! # Ok::<(), vokhsaot::Error>(())
+//! ```
+//!
+//! [`run`] does the same between two lent pictures, of which [`shown`] has the last step. [`kernel`] gives a shape's weights,
+//! [`difference`] and [`directional`] the differences of a picture, and [`answer_text`] what the bench program prints.
+//!
+//! # Pictures
+//!
+//! A picture is its pixels, row after row, with its width and height. x grows to the right and y grows downward, with the row number:
+//! the pixel in column x and row y is `pixels[y * width + x]`. Outside the picture the nearest pixel stands. A direction's degrees
+//! turn from x towards y, clockwise as a picture is seen.
+//!
+//! ```text
+//!       x = 0   1   2
+//!       +---+---+---+--> x
+//! y = 0 | 0 | 1 | 2 |        0 degrees: to the right, cosine 1, sine 0
+//!       +---+---+---+
+//!     1 | 3 | 4 | 5 |       90 degrees: downward, cosine 0, sine 1
+//!       +---+---+---+
+//!       |
+//!       v y
+//! ```
+//!
+//! # Limits
+//!
+//! | what | limit |
+//! |---|---|
+//! | a pixel | 0 to 65535, [`LARGEST_PIXEL`] |
+//! | a picture's sides | 1 to 1024, [`LONGEST_SIDE`] |
+//! | steps | 1 to 64, [`MOST_STEPS`] |
+//! | variances of a round or an oval | 0 to 64 square pixels, [`LARGEST_VARIANCE`] |
+//! | a matrix, in 1/4096 square pixel | xx and yy at most 4096 × steps, \|xy\| at most the smaller of them |
+//! | jobs of a service at a time | 8, [`SEATS`] |
+//! | pixels of a job's picture | 1024, [`BUFFER_PIXELS`] |
+//!
+//! # The service
+//!
+//! A [`Service`] holds up to eight jobs and does their steps one by one, in turn. Each job gets the picture that it would get alone.
+//!
+//! ```
+//! use vokhsaot::{Service, Shape};
+//!
+//! let mut service = Service::new();
+//! let number = service.submit(Shape::Round(1.0), 2, 4, 1, &[0, 0, 800, 0])?;
+//! while let Some(served) = service.tick()? {
+//!     println!("job {served}: {} steps left", service.job(served).unwrap().steps_left);
+//! }
+//! let job = service.job(number).unwrap();
+//! let mut picture = vec![0; (job.width * job.height) as usize];
+//! service.collect(number, &mut picture)?;
+//! assert_eq!(service.free_count()?, 16);
+//! # Ok::<(), vokhsaot::Error>(())
+//! ```
+//!
+//! # Threads
+//!
+//! There is no global state: calls in different threads do not meet. A [`Service`] is [`Send`] and [`Sync`]; what is lent to a call is
+//! lent to it alone until it returns, as the borrows in the signatures say.
+//!
+//! # Floats
 //!
 //! What is proved of the calls in floats (a [`Shape::Round`] or [`Shape::Oval`], and [`directional`]) holds where the thread that
 //! calls rounds to nearest, ties to even, and keeps subnormal numbers. Rust code may assume both, but code in another language
 //! can have changed them: with another rounding mode (`fesetround`), or with subnormals flushed to zero (FTZ, DAZ), these calls
 //! can answer otherwise. All other calls compute in whole numbers.
 //!
-//! ```
-//! use vokhsaot::{kernel, kernel_by, run, run_by, shown, Choice, Shape};
+//! # How it is linked
 //!
-//! let shape = Shape::Matrix { xx: 2048, xy: 0, yy: 2048 };
-//! assert_eq!(kernel(shape, 1).unwrap().weight(0, 0), 4096);
-//! let picture = [0, 0, 0, 0, 1600, 0, 0, 0, 0];
-//! let (mut first, mut second) = (picture, [0; 9]);
-//! run(shape, 1, 3, 3, &mut first, &mut second).unwrap();
-//! assert_eq!(shown(1, &first, &second), [100, 200, 100, 200, 400, 200, 100, 200, 100]);
-//!
-//! // The same shape by the choice "smallest", whose kernel has a hollow centre here.
-//! assert_eq!(kernel_by(Choice::Smallest, shape, 1).unwrap().weight(0, 0), 0);
-//! let (mut first, mut second) = (picture, [0; 9]);
-//! run_by(Choice::Smallest, shape, 1, 3, 3, &mut first, &mut second).unwrap();
-//! assert_eq!(shown(1, &first, &second), [0, 400, 0, 400, 0, 400, 0, 400, 0]);
-//! ```
+//! A program names the crate by its path, in its Cargo.toml: `vokhsaot = { path = "CLONE/rust" }`, where CLONE is a clone of the
+//! repository. The build looks for `libvokhsaot.a` (as installed) or `libcapi.a` (as the prover writes it), in the folder that the
+//! environment's `VOKHSAOT_LIB_DIR` names; a relative path is meant from the shell's folder, the environment's `PWD`. Without
+//! `VOKHSAOT_LIB_DIR` it takes the repository's own, in target/dist/lib or target/staticlib, whichever was written last: `./build.sh`
+//! in the repository makes it. The library is linked statically, so a program that uses it needs no file of it at run time.
+
+#![deny(missing_docs)]
+#![deny(rustdoc::broken_intra_doc_links)]
 
 mod error;
 mod exported;
+mod limits;
 mod picture;
 mod service;
 mod shape;
 mod text;
 
 pub use error::Error;
-pub use picture::{difference, directional, pixel, run, run_by, shown, Difference};
-pub use service::{Service, BUFFER_PIXELS, SEATS, STORE_PIXELS, WORDS};
+pub use limits::*;
+pub use picture::{
+    difference, directional, pixel, run, run_by, shown, smooth, smooth_by, Difference,
+};
+pub use service::{Job, Service};
 pub use shape::{covariance, kernel, kernel_by, Choice, Covariance, Direction, Kernel, Shape};
-pub use text::{answer_text, MOST_ANSWER_BYTES};
+pub use text::answer_text;

@@ -4,22 +4,37 @@ use crate::error::{outcome, Error};
 use crate::exported;
 use crate::shape::{Choice, Direction, Shape};
 
-/// One of the five undivided differences.
+/// One of the five undivided differences of a picture. L is its pixel at a place, L(x+1) the one to the right of it, L(y+1) the one
+/// below it.
 #[derive(Clone, Copy, Debug, PartialEq, Eq, Hash)]
 pub enum Difference {
-    /// L(x+1) − L(x−1).
+    /// L(x+1) − L(x−1), twice the derivative in x.
     FirstX,
-    /// L(y+1) − L(y−1).
+    /// L(y+1) − L(y−1), twice the derivative in y.
     FirstY,
-    /// L(x+1) − 2L + L(x−1).
+    /// L(x+1) − 2L + L(x−1), the second derivative in x.
     SecondX,
-    /// L(y+1) − 2L + L(y−1).
+    /// L(y+1) − 2L + L(y−1), the second derivative in y.
     SecondY,
-    /// L(+,+) − L(−,+) − L(+,−) + L(−,−).
+    /// L(+,+) − L(−,+) − L(+,−) + L(−,−), four times the mixed derivative; the first sign is of x, the second of y.
     Mixed,
 }
 
-/// The pixel at a column and a row; outside the picture the nearest one, on each axis separately. Refusals 6 and 9.
+/// The pixel at a column x and a row y, both counted from 0; outside the picture the nearest one, on each axis separately.
+///
+/// # Errors
+/// In checking order:
+/// - 6, [`SideOutOfRange`](Error::SideOutOfRange): the width or height is not 1 to 1024.
+/// - 9, [`WrongLength`](Error::WrongLength): there are not width × height pixels.
+///
+/// ```
+/// use vokhsaot::{pixel, Error};
+///
+/// let pixels = [0, 1, 2, 3, 4, 5];
+/// assert_eq!(pixel(&pixels, 3, 2, 1, 1), Ok(4));
+/// assert_eq!(pixel(&pixels, 3, 2, 7, 0), Ok(2)); // to the right of the picture, in the same row
+/// assert_eq!(pixel(&pixels, 2, 2, 0, 0), Err(Error::WrongLength));
+/// ```
 pub fn pixel(pixels: &[u16], width: u32, height: u32, column: i32, row: i32) -> Result<u16, Error> {
     let mut found = 0;
     // SAFETY: the pointer and the length are of one slice.
@@ -38,12 +53,63 @@ pub fn pixel(pixels: &[u16], width: u32, height: u32, column: i32, row: i32) -> 
     Ok(found)
 }
 
-/// A run of `steps` steps between two lent pictures, starting in the first, by [`Choice::Binomial`]. [`shown`] is the one with
-/// the last step; the other holds the step before. Refusals 3, 4, 5, 6, 9 and 11.
+/// The picture after a run of `steps` steps, by [`Choice::Binomial`].
+///
+/// # Errors
+/// 3, 4, 5, 6, 9 and 11, checked in this order; [`run_by`] says when each occurs.
+///
+/// ```
+/// use vokhsaot::{smooth, Shape};
+///
+/// let spot = [0, 0, 0, 0, 1600, 0, 0, 0, 0];
+/// let smoothed = smooth(Shape::Round(0.5), 1, 3, 3, &spot).unwrap();
+/// assert_eq!(smoothed, [100, 200, 100, 200, 400, 200, 100, 200, 100]);
+/// ```
+pub fn smooth(
+    shape: Shape,
+    steps: u32,
+    width: u32,
+    height: u32,
+    pixels: &[u16],
+) -> Result<Vec<u16>, Error> {
+    smooth_by(Choice::default(), shape, steps, width, height, pixels)
+}
+
+/// The picture after a run of `steps` steps by the kernel of a choice.
+///
+/// # Errors
+/// 3, 4, 5, 6, 9 and 11, checked in this order; [`run_by`] says when each occurs.
+pub fn smooth_by(
+    choice: Choice,
+    shape: Shape,
+    steps: u32,
+    width: u32,
+    height: u32,
+    pixels: &[u16],
+) -> Result<Vec<u16>, Error> {
+    let (mut first, mut second) = (pixels.to_vec(), vec![0; pixels.len()]);
+    run_by(choice, shape, steps, width, height, &mut first, &mut second)?;
+    with_last_step(steps, first, second)
+}
+
+/// A run of `steps` steps between two lent pictures, starting in the first, by [`Choice::Binomial`]. What the second held does not
+/// count. Afterwards [`shown`] is the picture with the last step; the other holds the step before. [`smooth`] does the same without
+/// lent pictures.
 ///
 /// In each step a pixel that is at least as large as each of its up to eight neighbours inside the picture does not rise, and
 /// one that is at most as large does not fall; after the call the two pictures are the last step's, before and after it. Two
 /// pictures of equal sides that differ by at most d at each pixel still do after runs of one shape, step count and choice.
+///
+/// # Errors
+/// 3, 4, 5, 6, 9 and 11, checked in this order; [`run_by`] says when each occurs.
+///
+/// ```
+/// use vokhsaot::{run, shown, Shape};
+///
+/// let (mut first, mut second) = ([0, 0, 1600, 0, 0], [0; 5]);
+/// run(Shape::Matrix { xx: 4096, xy: 0, yy: 0 }, 2, 5, 1, &mut first, &mut second).unwrap();
+/// assert_eq!(shown(2, &first, &second).unwrap(), [100, 400, 600, 400, 100]);
+/// ```
 pub fn run(
     shape: Shape,
     steps: u32,
@@ -63,7 +129,18 @@ pub fn run(
     )
 }
 
-/// The same run by the kernel of a choice, with the same refusals.
+/// The run of [`run`] by the kernel of a choice.
+///
+/// # Errors
+/// In checking order, the same for each choice:
+/// - 3, [`VarianceOutOfRange`](Error::VarianceOutOfRange): a variance of a round or an oval is not a number or lies outside 0 to 64.
+/// - 4, [`NotADirection`](Error::NotADirection): an oval's direction is none: a cosine or sine is not a number or lies outside −1 to 1,
+///   or the sum of their squares lies outside 1023/1024 to 1025/1024.
+/// - 5, [`StepsOutOfRange`](Error::StepsOutOfRange): the steps are not 1 to 64.
+/// - 6, [`SideOutOfRange`](Error::SideOutOfRange): the width or height is not 1 to 1024.
+/// - 9, [`WrongLength`](Error::WrongLength): one of the pictures has not width × height pixels.
+/// - 11, [`NoKernel`](Error::NoKernel): the shape has no kernel with so many steps: |xy| is more than the smaller of xx and yy, or the
+///   larger of them is more than 4096 × steps.
 pub fn run_by(
     choice: Choice,
     shape: Shape,
@@ -86,26 +163,58 @@ pub fn run_by(
                 choice, variance, steps, width, height, one, one_len, two, two_len,
             ),
             Shape::Oval {
-                long,
-                short,
+                long_variance,
+                short_variance,
                 direction: Direction { cosine, sine },
             } => exported::vokhsaot_run_oval_by(
-                choice, long, short, cosine, sine, steps, width, height, one, one_len, two, two_len,
+                choice,
+                long_variance,
+                short_variance,
+                cosine,
+                sine,
+                steps,
+                width,
+                height,
+                one,
+                one_len,
+                two,
+                two_len,
             ),
         }
     })
 }
 
-/// The one of a run's two pictures that holds its last step: the first where the number of steps is even.
-pub fn shown<'a>(steps: u32, first: &'a [u16], second: &'a [u16]) -> &'a [u16] {
-    if steps.is_multiple_of(2) {
-        first
-    } else {
-        second
-    }
+/// The one of a run's two pictures that holds its last step: the first where the number of steps is even. With the two pictures
+/// changed round it is the one that holds the step before.
+///
+/// # Errors
+/// 5, [`StepsOutOfRange`](Error::StepsOutOfRange): the steps are not 1 to 64, so there was no such run.
+pub fn shown<'a>(steps: u32, first: &'a [u16], second: &'a [u16]) -> Result<&'a [u16], Error> {
+    with_last_step(steps, first, second)
 }
 
-/// One of the five undivided differences, into a lent result of the picture's size. Refusals 6 and 9.
+/// The one of the two that belongs to the picture with a run's last step.
+fn with_last_step<T>(steps: u32, first: T, second: T) -> Result<T, Error> {
+    let mut picture = 0;
+    // SAFETY: the pointer is of a number of its own.
+    outcome(unsafe { exported::vokhsaot_shown(steps, &mut picture) })?;
+    Ok(if picture == 0 { first } else { second })
+}
+
+/// One of the five undivided differences, into a lent result of the picture's size. Outside the picture the nearest pixel stands.
+///
+/// # Errors
+/// In checking order:
+/// - 6, [`SideOutOfRange`](Error::SideOutOfRange): the width or height is not 1 to 1024.
+/// - 9, [`WrongLength`](Error::WrongLength): there are not width × height pixels, or the result has not so many entries.
+///
+/// ```
+/// use vokhsaot::{difference, Difference};
+///
+/// let mut result = [0; 4];
+/// difference(Difference::FirstX, &[10, 20, 40, 40], 4, 1, &mut result).unwrap();
+/// assert_eq!(result, [10, 30, 20, 0]);
+/// ```
 pub fn difference(
     which: Difference,
     pixels: &[u16],
@@ -133,11 +242,28 @@ pub fn difference(
     })
 }
 
-/// The directional difference (c·dx) + (s·dy), into a lent result of the picture's size. Refusals 4, 6 and 9.
+/// The directional difference (c·dx) + (s·dy), into a lent result of the picture's size: c and s are the direction's cosine and
+/// sine, dx and dy the [first differences](Difference::FirstX) in x and y. It is exact along the axes.
 ///
 /// It is computed in floats, which takes the thread's usual rounding mode and subnormal numbers for granted (see the crate's first
 /// page). A refused call keeps the result's entries; of one that is a NaN it is proved that it stays one, and nothing of its sign
 /// and payload.
+///
+/// # Errors
+/// In checking order:
+/// - 4, [`NotADirection`](Error::NotADirection): a cosine or sine is not a number or lies outside −1 to 1, or the sum of their squares
+///   lies outside 1023/1024 to 1025/1024.
+/// - 6, [`SideOutOfRange`](Error::SideOutOfRange): the width or height is not 1 to 1024.
+/// - 9, [`WrongLength`](Error::WrongLength): there are not width × height pixels, or the result has not so many entries.
+///
+/// ```
+/// use vokhsaot::{directional, Direction};
+///
+/// let mut result = [0.0; 4];
+/// let downward = Direction::from_degrees(90.0);
+/// directional(downward, &[10, 20, 40, 40], 1, 4, &mut result).unwrap();
+/// assert_eq!(result, [10.0, 30.0, 20.0, 0.0]);
+/// ```
 pub fn directional(
     direction: Direction,
     pixels: &[u16],

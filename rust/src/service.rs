@@ -2,19 +2,72 @@
 
 use crate::error::{outcome, Error};
 use crate::exported;
-use crate::shape::{Direction, Shape};
+use crate::limits::{
+    SEATS, SEAT_HEIGHT, SEAT_JOB, SEAT_STEPS, SEAT_STEPS_LEFT, SEAT_WIDTH, SEAT_WORDS, SEAT_XX,
+    SEAT_XY, SEAT_YY, STORE_PIXELS, WORDS,
+};
+use crate::shape::{Covariance, Direction, Shape};
 
-/// Words of a service record.
-pub const WORDS: usize = 67;
-/// Seats of the service.
-pub const SEATS: usize = 8;
-/// Pixels of a buffer, and so of the largest picture of a job.
-pub const BUFFER_PIXELS: usize = 1024;
-/// Pixels of the store.
-pub const STORE_PIXELS: usize = 16 * BUFFER_PIXELS;
+/// A job that a service holds, as its record tells it.
+#[derive(Clone, Copy, Debug, PartialEq, Eq)]
+pub struct Job {
+    /// Its number, which its submit answered; never 0.
+    pub number: u64,
+    /// Its seat, counted from 0. Its pictures stand in the store's buffers 2 × seat and 2 × seat + 1, its current one in the first of
+    /// them where an even number of its steps is done.
+    pub seat: usize,
+    /// The covariance of its shape.
+    pub covariance: Covariance,
+    /// Its steps, done and left.
+    pub steps: u32,
+    /// Its steps left; it is finished, and can be collected, where this is 0.
+    pub steps_left: u32,
+    /// The width of its picture.
+    pub width: u32,
+    /// The height of its picture.
+    pub height: u32,
+}
 
-/// A service: its record and its store. The record is 67 words: for each seat its number, xx, xy, yy, steps, steps left,
-/// width and height, then the last number given, the seat last filled and the seat last served.
+impl Job {
+    /// The job in a seat, from the seat's words; `None` where it is empty. The words are of a record in order.
+    fn in_seat(seat: usize, words: &[u64]) -> Option<Job> {
+        // In order, each word but the number has 32 bits.
+        let word = |place: usize| words[place] as u32;
+        let entry = |place| word(place) as i32;
+        (words[SEAT_JOB] != 0).then(|| Job {
+            number: words[SEAT_JOB],
+            seat,
+            covariance: Covariance {
+                xx: entry(SEAT_XX),
+                xy: entry(SEAT_XY),
+                yy: entry(SEAT_YY),
+            },
+            steps: word(SEAT_STEPS),
+            steps_left: word(SEAT_STEPS_LEFT),
+            width: word(SEAT_WIDTH),
+            height: word(SEAT_HEIGHT),
+        })
+    }
+}
+
+/// A service: its record and its store. The record is 67 words ([`WORDS`]): for each seat its job's number, xx, xy, yy, steps, steps
+/// left, width and height, then the last number given, the seat last filled and the seat last served. Constants name the places:
+/// [`SEAT_JOB`] to [`SEAT_HEIGHT`] within the [`SEAT_WORDS`] of a seat, and [`WORD_LAST_NUMBER`](crate::WORD_LAST_NUMBER),
+/// [`WORD_LAST_FILLED`](crate::WORD_LAST_FILLED) and [`WORD_LAST_SERVED`](crate::WORD_LAST_SERVED).
+///
+/// ```
+/// use vokhsaot::{Error, Service, Shape};
+///
+/// let mut service = Service::new();
+/// let job = service.submit(Shape::Matrix { xx: 4096, xy: 0, yy: 0 }, 2, 5, 1, &[0, 0, 1600, 0, 0])?;
+/// assert_eq!(service.free_count(), Ok(14));
+/// let mut picture = [0; 5];
+/// assert_eq!(service.collect(job, &mut picture), Err(Error::StepsAreLeft));
+/// while service.tick()?.is_some() {}
+/// service.collect(job, &mut picture)?;
+/// assert_eq!(picture, [100, 400, 600, 400, 100]);
+/// # Ok::<(), Error>(())
+/// ```
 #[derive(Clone, Debug, PartialEq, Eq)]
 pub struct Service {
     words: Vec<u64>,
@@ -33,7 +86,8 @@ impl Service {
         Service::with_store(vec![0; STORE_PIXELS])
     }
 
-    /// An empty service over this store. A store of another length is refused by each call that is lent it.
+    /// An empty service over this store, whatever its pixels. A store of another length than [`STORE_PIXELS`] is refused with 2 by
+    /// submit, tick and collect.
     pub fn with_store(store: Vec<u16>) -> Service {
         let mut words = vec![0; WORDS];
         // SAFETY: the pointer and the length are of one slice.
@@ -42,7 +96,7 @@ impl Service {
         Service { words, store }
     }
 
-    /// A service of words and a store that were kept. No word of them is trusted: the calls refuse what is not in order.
+    /// A service of words and a store that were kept. No word of them is trusted: every call refuses what is not in order with 2.
     pub fn from_parts(words: Vec<u64>, store: Vec<u16>) -> Service {
         Service { words, store }
     }
@@ -57,8 +111,23 @@ impl Service {
         &self.store
     }
 
-    /// Submits a job and answers its number. Its steps go by [`Choice::Smallest`](crate::Choice::Smallest), as do all jobs of the
-    /// service until its record can hold a choice.
+    /// Submits a job and answers its number: its picture is copied into a free seat's buffer. Its steps go by
+    /// [`Choice::Smallest`](crate::Choice::Smallest), as do all jobs of the service until its record can hold a choice.
+    ///
+    /// # Errors
+    /// In checking order:
+    /// - 2, [`RecordOutOfOrder`](Error::RecordOutOfOrder): the record is not in order, or the store has not [`STORE_PIXELS`] pixels.
+    /// - 3, [`VarianceOutOfRange`](Error::VarianceOutOfRange): a variance of a round or an oval is not a number or lies outside 0 to 64.
+    /// - 4, [`NotADirection`](Error::NotADirection): an oval's direction is none: a cosine or sine is not a number or lies outside −1 to
+    ///   1, or the sum of their squares lies outside 1023/1024 to 1025/1024.
+    /// - 5, [`StepsOutOfRange`](Error::StepsOutOfRange): the steps are not 1 to 64.
+    /// - 6, [`SideOutOfRange`](Error::SideOutOfRange): the width or height is not 1 to 1024.
+    /// - 9, [`WrongLength`](Error::WrongLength): the picture has not width × height pixels.
+    /// - 10, [`TooManyPixels`](Error::TooManyPixels): it has more than [`BUFFER_PIXELS`](crate::BUFFER_PIXELS).
+    /// - 11, [`NoKernel`](Error::NoKernel): the shape has no kernel with so many steps: |xy| is more than the smaller of xx and yy, or
+    ///   the larger of them is more than 4096 × steps.
+    /// - 12, [`NoFreeBuffers`](Error::NoFreeBuffers): all eight seats hold jobs: collect or withdraw one.
+    /// - 13, [`NumbersUsedUp`](Error::NumbersUsedUp): the last number given is 2^64 − 1: open another service.
     pub fn submit(
         &mut self,
         shape: Shape,
@@ -103,16 +172,16 @@ impl Service {
                     &mut number,
                 ),
                 Shape::Oval {
-                    long,
-                    short,
+                    long_variance,
+                    short_variance,
                     direction: Direction { cosine, sine },
                 } => exported::vokhsaot_submit_oval(
                     words,
                     words_len,
                     store,
                     store_len,
-                    long,
-                    short,
+                    long_variance,
+                    short_variance,
                     cosine,
                     sine,
                     steps,
@@ -128,7 +197,11 @@ impl Service {
         Ok(number)
     }
 
-    /// Does one step of one job and answers its number, or `None` where no job has steps left.
+    /// Does one step of one job and answers its number, or `None` where no job has steps left. The jobs with steps left take turns,
+    /// seat after seat, so one with r steps left is finished after at most 8 × r ticks.
+    ///
+    /// # Errors
+    /// 2, [`RecordOutOfOrder`](Error::RecordOutOfOrder): the record is not in order, or the store has not [`STORE_PIXELS`] pixels.
     pub fn tick(&mut self) -> Result<Option<u64>, Error> {
         let mut number = 0;
         // SAFETY: each pointer stands with the length of its own slice, and none of them overlap.
@@ -146,6 +219,14 @@ impl Service {
     }
 
     /// Writes a finished job's picture out, empties its seat and answers its number.
+    ///
+    /// # Errors
+    /// In checking order:
+    /// - 2, [`RecordOutOfOrder`](Error::RecordOutOfOrder): the record is not in order, or the store has not [`STORE_PIXELS`] pixels.
+    /// - 7, [`NoSuchJob`](Error::NoSuchJob): no seat has this job number.
+    /// - 8, [`StepsAreLeft`](Error::StepsAreLeft): the job has steps left: tick on.
+    /// - 9, [`WrongLength`](Error::WrongLength): the lent picture has not the width × height pixels of the job's ([`Service::job`]
+    ///   tells them).
     pub fn collect(&mut self, job: u64, picture: &mut [u16]) -> Result<u64, Error> {
         let mut number = 0;
         // SAFETY: each pointer stands with the length of its own slice, and none of them overlap.
@@ -166,6 +247,11 @@ impl Service {
     }
 
     /// Empties a job's seat, finished or not, and answers its number.
+    ///
+    /// # Errors
+    /// In checking order:
+    /// - 2, [`RecordOutOfOrder`](Error::RecordOutOfOrder): the record is not in order.
+    /// - 7, [`NoSuchJob`](Error::NoSuchJob): no seat has this job number.
     pub fn withdraw(&mut self, job: u64) -> Result<u64, Error> {
         let mut number = 0;
         // SAFETY: the pointer and the length are of one slice.
@@ -176,8 +262,11 @@ impl Service {
         Ok(number)
     }
 
-    /// The number of free buffers.
-    pub fn free(&self) -> Result<u32, Error> {
+    /// The number of free buffers: [`BUFFERS`](crate::BUFFERS) less 2 for each job held.
+    ///
+    /// # Errors
+    /// 2, [`RecordOutOfOrder`](Error::RecordOutOfOrder): the record is not in order.
+    pub fn free_count(&self) -> Result<u32, Error> {
         let mut count = 0;
         // SAFETY: the pointer and the length are of one slice.
         let code = unsafe {
@@ -185,5 +274,72 @@ impl Service {
         };
         outcome(code)?;
         Ok(count)
+    }
+
+    /// The job of this number; `None` where no seat has it, as of the number 0. A record that is not in order, which every call
+    /// refuses with 2, tells of no job: so `None` too ([`Service::free_count`] tells the two apart).
+    ///
+    /// ```
+    /// use vokhsaot::{Service, Shape};
+    ///
+    /// let mut service = Service::new();
+    /// let number = service.submit(Shape::Round(1.0), 3, 4, 2, &[7; 8]).unwrap();
+    /// service.tick().unwrap();
+    /// let job = service.job(number).unwrap();
+    /// assert_eq!((job.steps_left, job.steps, job.width, job.height), (2, 3, 4, 2));
+    /// assert_eq!(service.job(number + 1), None);
+    /// ```
+    pub fn job(&self, number: u64) -> Option<Job> {
+        self.jobs().into_iter().find(|job| job.number == number)
+    }
+
+    /// The jobs that the service holds, by their seats. None of a record that is not in order.
+    pub fn jobs(&self) -> Vec<Job> {
+        if self.free_count().is_err() {
+            return Vec::new();
+        }
+        let seats = self.words.chunks(SEAT_WORDS).take(SEATS).enumerate();
+        seats
+            .filter_map(|(seat, words)| Job::in_seat(seat, words))
+            .collect()
+    }
+}
+
+#[cfg(test)]
+mod tests {
+    use super::*;
+
+    /// What the crate's first page says of threads.
+    #[test]
+    fn a_service_goes_to_other_threads() {
+        fn goes<T: Send + Sync>() {}
+        goes::<Service>();
+    }
+
+    /// A covariance below 0 reads back from the words, and an empty service has no job, not even of the number 0.
+    #[test]
+    fn jobs_of_the_words() {
+        let mut service = Service::new();
+        assert_eq!((service.jobs(), service.job(0)), (Vec::new(), None));
+        let (xx, xy, yy) = (3000, -1000, 2000);
+        let shape = Shape::Matrix { xx, xy, yy };
+        let numbers = [(1, 3), (2, 1)].map(|(width, height)| {
+            let picture = vec![9; (width * height) as usize];
+            service.submit(shape, 5, width, height, &picture).unwrap()
+        });
+        assert_eq!(numbers, [1, 2]);
+        service.tick().unwrap();
+        service.withdraw(1).unwrap();
+        let left = Job {
+            number: 2,
+            seat: 1,
+            covariance: Covariance { xx, xy, yy },
+            steps: 5,
+            steps_left: 5,
+            width: 2,
+            height: 1,
+        };
+        assert_eq!(service.jobs(), [left]);
+        assert_eq!((service.job(1), service.job(2)), (None, Some(left)));
     }
 }

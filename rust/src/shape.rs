@@ -2,31 +2,73 @@
 
 use crate::error::{outcome, Error};
 use crate::exported;
+use crate::limits::{COVARIANCE_ENTRIES, KERNEL_NUMBERS};
 
-/// A direction: a cosine and a sine, the sum of whose squares is 1 within 1/1024.
+/// A direction: a cosine and a sine, the sum of whose squares is 1 within 1/1024. x points to the right and y downward, so (1, 0) is to
+/// the right and (0, 1) downward.
 #[derive(Clone, Copy, Debug, PartialEq)]
 pub struct Direction {
+    /// How far it goes in x, −1 to 1.
     pub cosine: f64,
+    /// How far it goes in y, −1 to 1.
     pub sine: f64,
 }
 
-/// A shape: the covariance of a job's smoothing kernel. `Round` and `Oval` are computed in floats, which takes the thread's usual
-/// rounding mode and subnormal numbers for granted (see the crate's first page); `Matrix` is not.
+impl Direction {
+    /// The direction of an angle, which turns from x towards y: clockwise, as a picture is seen. Multiples of 90 are exactly the axes,
+    /// since only there is a [`directional`](crate::directional) difference exact.
+    ///
+    /// Other angles go by this platform's cosine and sine, of which nothing is proved: the proved calls begin with the two numbers. Of
+    /// an angle that is not a number or infinite both are not a number, which the calls refuse with [`Error::NotADirection`].
+    ///
+    /// ```
+    /// use vokhsaot::Direction;
+    ///
+    /// assert_eq!(Direction::from_degrees(0.0), Direction { cosine: 1.0, sine: 0.0 }); // to the right
+    /// assert_eq!(Direction::from_degrees(90.0), Direction { cosine: 0.0, sine: 1.0 }); // downward
+    /// ```
+    pub fn from_degrees(degrees: f64) -> Direction {
+        let turned = degrees % 360.0;
+        let (cosine, sine) = if turned % 90.0 == 0.0 {
+            AXES[((turned / 90.0) as i32).rem_euclid(4) as usize]
+        } else {
+            (turned.to_radians().cos(), turned.to_radians().sin())
+        };
+        Direction { cosine, sine }
+    }
+}
+
+/// Cosine and sine after so many quarter turns.
+const AXES: [(f64, f64); 4] = [(1.0, 0.0), (0.0, 1.0), (-1.0, 0.0), (0.0, -1.0)];
+
+/// A shape: how far and in which direction a picture is smoothed, as the covariance of the smoothing. `Round` and `Oval` are computed in
+/// floats, which takes the thread's usual rounding mode and subnormal numbers for granted (see the crate's first page); `Matrix` is not.
 #[derive(Clone, Copy, Debug, PartialEq)]
 pub enum Shape {
-    /// The covariance matrix in 1/4096 square pixel.
-    Matrix { xx: i32, xy: i32, yy: i32 },
-    /// One variance in square pixels, 0 to 64.
+    /// The covariance matrix in 1/4096 square pixel, taken as it stands. Where xy is positive, the shape leans from the upper left to the
+    /// lower right.
+    Matrix {
+        /// The variance in x.
+        xx: i32,
+        /// The covariance of x and y.
+        xy: i32,
+        /// The variance in y.
+        yy: i32,
+    },
+    /// One variance in square pixels, 0 to 64, the same in all directions.
     Round(f64),
-    /// Variances along and across a direction, in square pixels, 0 to 64.
+    /// Variances along and across a direction.
     Oval {
-        long: f64,
-        short: f64,
+        /// The variance along the direction, in square pixels, 0 to 64. It may be the smaller one.
+        long_variance: f64,
+        /// The variance across the direction, in square pixels, 0 to 64.
+        short_variance: f64,
+        /// The direction.
         direction: Direction,
     },
 }
 
-/// Which kernel of a shape: the molecule's formulas leave one number f free between two bounds, and a choice settles it. Kernels
+/// Which kernel of a shape: the formulas of the weights leave one number f free between two bounds, and a choice settles it. Kernels
 /// exist for the same shapes by either choice, both have the shape's covariance exactly, and their pixels can differ.
 ///
 /// With M = 4096 × steps, all in 1/4096 square pixel, every f from the larger of |xy| and xx + yy − M up to the smaller of xx and
@@ -38,7 +80,8 @@ pub enum Choice {
     /// neighbours wherever some f gives that, as in the binomial kernel 1 2 1, 2 4 2, 1 2 1 that the choice is named after.
     #[default]
     Binomial,
-    /// The smallest f, the larger of |xy| and xx + yy − M, whose kernel can have a hollow centre (a weight of 0).
+    /// The smallest f, the larger of |xy| and xx + yy − M, whose kernel can have a hollow centre (a weight of 0). All jobs of a
+    /// [`Service`](crate::Service) go by it.
     Smallest,
 }
 
@@ -52,23 +95,28 @@ impl Choice {
     }
 }
 
-/// A covariance matrix in 1/4096 square pixel.
+/// A covariance matrix in 1/4096 square pixel ([`UNITS_PER_SQUARE_PIXEL`](crate::UNITS_PER_SQUARE_PIXEL)).
 #[derive(Clone, Copy, Debug, PartialEq, Eq)]
 pub struct Covariance {
+    /// The variance in x.
     pub xx: i32,
+    /// The covariance of x and y.
     pub xy: i32,
+    /// The variance in y.
     pub yy: i32,
 }
 
-/// Nine weights over their sum, by row and then by column, offset −1 first in each; y grows with the row number.
+/// The kernel of one step: nine weights over their sum.
 #[derive(Clone, Copy, Debug, PartialEq, Eq)]
 pub struct Kernel {
+    /// The weights by row and then by column, offset −1 first in each: from the upper left to the lower right.
     pub weights: [u64; 9],
+    /// Their sum, 4 × 4096 × steps.
     pub sum: u64,
 }
 
 impl Kernel {
-    /// The weight of the offset `dx`, `dy`, each −1, 0 or 1.
+    /// The weight of the pixel in column x + `dx` and row y + `dy`, each offset −1, 0 or 1.
     ///
     /// # Panics
     /// Where an offset is none of these.
@@ -78,9 +126,24 @@ impl Kernel {
     }
 }
 
-/// The covariance of a shape in whole numbers. Refusals 3 and 4.
+/// The covariance of a shape in whole numbers: 4096 times the shape's floats, to the nearest, halves upward. A matrix is taken as it
+/// stands, and never refused.
+///
+/// # Errors
+/// In checking order:
+/// - 3, [`VarianceOutOfRange`](Error::VarianceOutOfRange): a variance is not a number or lies outside 0 to 64.
+/// - 4, [`NotADirection`](Error::NotADirection): the oval's direction is none: a cosine or sine is not a number or lies outside −1 to
+///   1, or the sum of their squares lies outside 1023/1024 to 1025/1024.
+///
+/// ```
+/// use vokhsaot::{covariance, Covariance, Direction, Shape};
+///
+/// let direction = Direction::from_degrees(90.0);
+/// let upright = Shape::Oval { long_variance: 2.0, short_variance: 0.5, direction };
+/// assert_eq!(covariance(upright), Ok(Covariance { xx: 2048, xy: 0, yy: 8192 }));
+/// ```
 pub fn covariance(shape: Shape) -> Result<Covariance, Error> {
-    let mut entries = [0; 3];
+    let mut entries = [0; COVARIANCE_ENTRIES];
     let (pointer, length) = (entries.as_mut_ptr(), entries.len());
     // SAFETY: the pointer and the length are of one slice.
     let code = unsafe {
@@ -90,10 +153,17 @@ pub fn covariance(shape: Shape) -> Result<Covariance, Error> {
                 exported::vokhsaot_covariance_round(variance, pointer, length)
             }
             Shape::Oval {
-                long,
-                short,
+                long_variance,
+                short_variance,
                 direction: Direction { cosine, sine },
-            } => exported::vokhsaot_covariance_oval(long, short, cosine, sine, pointer, length),
+            } => exported::vokhsaot_covariance_oval(
+                long_variance,
+                short_variance,
+                cosine,
+                sine,
+                pointer,
+                length,
+            ),
         }
     };
     outcome(code)?;
@@ -101,7 +171,10 @@ pub fn covariance(shape: Shape) -> Result<Covariance, Error> {
     Ok(Covariance { xx, xy, yy })
 }
 
-/// The kernel of a shape and a step count by [`Choice::Binomial`]. Refusals 3, 4, 5 and 11.
+/// The kernel of a shape and a number of steps by [`Choice::Binomial`]: so many steps with it have the shape's covariance together.
+///
+/// # Errors
+/// 3, 4, 5 and 11, checked in this order; [`kernel_by`] says when each occurs.
 ///
 /// ```
 /// use vokhsaot::{kernel, Shape};
@@ -114,7 +187,16 @@ pub fn kernel(shape: Shape, steps: u32) -> Result<Kernel, Error> {
     kernel_by(Choice::default(), shape, steps)
 }
 
-/// The kernel of a shape and a step count by a choice. Refusals 3, 4, 5 and 11, the same for each choice.
+/// The kernel of a shape and a number of steps by a choice.
+///
+/// # Errors
+/// In checking order, the same for each choice:
+/// - 3, [`VarianceOutOfRange`](Error::VarianceOutOfRange): a variance of a round or an oval is not a number or lies outside 0 to 64.
+/// - 4, [`NotADirection`](Error::NotADirection): an oval's direction is none: a cosine or sine is not a number or lies outside −1 to 1,
+///   or the sum of their squares lies outside 1023/1024 to 1025/1024.
+/// - 5, [`StepsOutOfRange`](Error::StepsOutOfRange): the steps are not 1 to 64.
+/// - 11, [`NoKernel`](Error::NoKernel): the shape has no kernel with so many steps: |xy| is more than the smaller of xx and yy, or the
+///   larger of them is more than 4096 × steps.
 ///
 /// ```
 /// use vokhsaot::{kernel_by, Choice, Shape};
@@ -124,7 +206,7 @@ pub fn kernel(shape: Shape, steps: u32) -> Result<Kernel, Error> {
 /// assert_eq!(smallest.weights.map(|weight| weight / 4096), [0, 1, 0, 1, 0, 1, 0, 1, 0]);
 /// ```
 pub fn kernel_by(choice: Choice, shape: Shape, steps: u32) -> Result<Kernel, Error> {
-    let mut numbers = [0; 10];
+    let mut numbers = [0; KERNEL_NUMBERS];
     let (choice, pointer, length) = (choice.number(), numbers.as_mut_ptr(), numbers.len());
     // SAFETY: the pointer and the length are of one slice.
     let code = unsafe {
@@ -136,15 +218,79 @@ pub fn kernel_by(choice: Choice, shape: Shape, steps: u32) -> Result<Kernel, Err
                 exported::vokhsaot_kernel_round_by(choice, variance, steps, pointer, length)
             }
             Shape::Oval {
-                long,
-                short,
+                long_variance,
+                short_variance,
                 direction: Direction { cosine, sine },
             } => exported::vokhsaot_kernel_oval_by(
-                choice, long, short, cosine, sine, steps, pointer, length,
+                choice,
+                long_variance,
+                short_variance,
+                cosine,
+                sine,
+                steps,
+                pointer,
+                length,
             ),
         }
     };
     outcome(code)?;
     let [sum, weights @ ..] = numbers;
     Ok(Kernel { weights, sum })
+}
+
+#[cfg(test)]
+mod tests {
+    use super::*;
+
+    #[test]
+    fn quarter_turns_are_exact() {
+        for whole_turns in -100..=100 {
+            let axes = [
+                (0.0, 1.0, 0.0),
+                (90.0, 0.0, 1.0),
+                (180.0, -1.0, 0.0),
+                (270.0, 0.0, -1.0),
+            ];
+            for (angle, cosine, sine) in axes {
+                let degrees = angle + 360.0 * f64::from(whole_turns);
+                let found = Direction::from_degrees(degrees);
+                assert_eq!(found, Direction { cosine, sine }, "{degrees}");
+            }
+        }
+        let right = Direction {
+            cosine: 1.0,
+            sine: 0.0,
+        };
+        assert_eq!(Direction::from_degrees(-0.0), right);
+        // A tiny turn is no quarter turn.
+        assert!(Direction::from_degrees(-1e-300).sine < 0.0);
+        assert!(Direction::from_degrees(1e-3).sine > 0.0);
+        assert!(Direction::from_degrees(f64::NAN).cosine.is_nan());
+        assert!(Direction::from_degrees(f64::INFINITY).cosine.is_nan());
+    }
+
+    #[test]
+    fn other_angles_lie_on_the_circle() {
+        let found = Direction::from_degrees(60.0);
+        assert!((found.cosine - 0.5).abs() < 1e-15);
+        assert!((found.sine - 0.75f64.sqrt()).abs() < 1e-15);
+        let back = Direction::from_degrees(-300.0);
+        assert!((found.sine - back.sine).abs() < 1e-15);
+    }
+
+    /// Degrees turn clockwise as a picture is seen: an oval of 30 degrees leans from the upper left to the lower right.
+    #[test]
+    fn degrees_turn_towards_y() {
+        let oval = |degrees| Shape::Oval {
+            long_variance: 4.0,
+            short_variance: 1.0,
+            direction: Direction::from_degrees(degrees),
+        };
+        assert!(covariance(oval(30.0)).unwrap().xy > 0);
+        assert!(covariance(oval(-30.0)).unwrap().xy < 0);
+        assert_eq!(
+            covariance(oval(f64::NAN)).unwrap_err(),
+            Error::NotADirection
+        );
+    }
 }

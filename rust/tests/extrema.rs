@@ -1,4 +1,4 @@
-//! Document 02's S-1 of the proved library, by the independent program's checks: a peak does not rise in a step and a
+//! S1.1 to S1.6 of the proved library, by the independent program's checks: a peak does not rise in a step and a
 //! hollow does not fall, and two pictures that differ by at most d still do. Of a run the last two steps are seen, of the
 //! service's jobs every step, in the store before and after a tick.
 
@@ -10,7 +10,7 @@ use reference::generate::{pixels_within, random_gap, random_heights, random_pixe
 use reference::random::Random;
 use reference::shape::shape_kernel;
 use reference::smooth::places;
-use vokhsaot::{run_by, shown, Choice, Service, Shape, BUFFER_PIXELS, SEATS, STORE_PIXELS};
+use vokhsaot::{run_by, shown, Choice, Job, Service, Shape, BUFFER_PIXELS, SEATS, STORE_PIXELS};
 
 /// A shape with a kernel, and its steps.
 fn work(random: &mut Random) -> (Shape, u32) {
@@ -72,9 +72,9 @@ impl Run {
         } = *self;
         let (mut first, mut second) = (start.to_vec(), vec![0; start.len()]);
         run_by(choice, shape, steps, width, height, &mut first, &mut second).unwrap();
-        let last = shown(steps, &first, &second).to_vec();
-        let before = shown(steps + 1, &first, &second).to_vec();
-        [before, last]
+        let last = shown(steps, &first, &second).unwrap();
+        let before = shown(steps, &second, &first).unwrap();
+        [before, last].map(<[u16]>::to_vec)
     }
 
     /// The laws of the last step, and of the run's two pictures that differ by at most `gap`, both by its one choice.
@@ -113,49 +113,30 @@ fn runs() {
     assert!(seen.peaks > 10_000 && seen.hollows > 10_000, "{seen:?}");
 }
 
-/// A job as the record's words tell it.
-struct Job {
-    seat: usize,
-    done: u64,
-    width: u32,
-    height: u32,
+/// The job of a number, which the service holds.
+fn find(service: &Service, number: u64) -> Job {
+    service.job(number).unwrap()
 }
 
-impl Job {
-    fn find(service: &Service, number: u64) -> Job {
-        let mut seats = service.words().chunks(8).take(SEATS);
-        let seat = seats.position(|words| words[0] == number).unwrap();
-        let words = &service.words()[8 * seat..8 * (seat + 1)];
-        Job {
-            seat,
-            done: words[4] - words[5],
-            width: words[6] as u32,
-            height: words[7] as u32,
-        }
-    }
+fn done(job: &Job) -> u32 {
+    job.steps - job.steps_left
+}
 
-    /// The job's current picture: buffer 2i after an even number of steps done, 2i + 1 after an odd one.
-    fn picture<'a>(&self, service: &'a Service) -> &'a [u16] {
-        let start = (2 * self.seat + self.done as usize % 2) * BUFFER_PIXELS;
-        &service.store()[start..start + (self.width * self.height) as usize]
-    }
+/// A job's current picture: buffer 2i after an even number of steps done, 2i + 1 after an odd one.
+fn picture<'a>(job: &Job, service: &'a Service) -> &'a [u16] {
+    let start = (2 * job.seat + done(job) as usize % 2) * BUFFER_PIXELS;
+    &service.store()[start..start + (job.width * job.height) as usize]
 }
 
 /// One tick, with both laws between the picture before and after it; the job that it served.
 fn tick(service: &mut Service, seen: &mut Seen) -> Option<u64> {
     let before = service.clone();
     let number = service.tick().unwrap()?;
-    let (old, new) = (Job::find(&before, number), Job::find(service, number));
-    assert_eq!(new.done, old.done + 1);
-    let name = format!("job {number} after {}", old.done);
-    let (width, height) = (old.width, old.height);
-    seen.check(
-        old.picture(&before),
-        new.picture(service),
-        width,
-        height,
-        &name,
-    );
+    let (old, new) = (find(&before, number), find(service, number));
+    assert_eq!(done(&new), done(&old) + 1);
+    let name = format!("job {number} after {}", done(&old));
+    let pictures = (picture(&old, &before), picture(&new, service));
+    seen.check(pictures.0, pictures.1, old.width, old.height, &name);
     Some(number)
 }
 
@@ -186,9 +167,9 @@ fn ticks() {
             for _ in 0..random.below(60) {
                 tick(&mut service, &mut seen);
                 for (numbers, gap) in &pairs {
-                    let [one, other] = numbers.map(|number| Job::find(&service, number));
-                    if one.done == other.done {
-                        let pictures = (one.picture(&service), other.picture(&service));
+                    let [one, other] = numbers.map(|number| find(&service, number));
+                    if done(&one) == done(&other) {
+                        let pictures = (picture(&one, &service), picture(&other, &service));
                         assert!(differ_at_most(pictures.0, pictures.1, (*gap).into()));
                         compared += 1;
                     }

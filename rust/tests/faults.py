@@ -14,7 +14,7 @@ import sys
 import tempfile
 
 # The two choices, with the one for a caller who names none, right and wrong.
-SMALLEST = "    /// Document 01's f, the smallest with which no weight is negative.\n"
+SMALLEST = "    /// The smallest f with which no weight is negative (K9).\n"
 DEFAULT = "    #[default]\n    Binomial,\n" + SMALLEST + "    Smallest,\n"
 DEFAULT_SMALLEST = "    Binomial,\n" + SMALLEST + "    #[default]\n    Smallest,\n"
 

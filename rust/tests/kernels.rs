@@ -130,7 +130,7 @@ fn covariances_and_shapes() {
     seen.assert_enough(30_000);
 }
 
-/// Document 02's numbers, from the library alone: cases a and e by both choices, and halves that are rounded up.
+/// The numbers of S2.1 to S2.6, from the library alone: cases a and e by both choices, and halves that are rounded up.
 #[test]
 fn the_choices_by_hand() {
     let weights = |choice, [xx, xy, yy]: [i32; 3], steps| {
@@ -157,7 +157,7 @@ fn the_choices_by_hand() {
     assert_eq!(weights(Choice::Binomial, [4096, 0, 0], 1)[0], 0);
 }
 
-/// Document 01's order of offsets: y grows with the row number, so that a positive xy weighs (1, 1).
+/// K8: y grows with the row number, so that a positive xy weighs (1, 1).
 #[test]
 fn the_lean_of_an_oval() {
     let lean = kernel(

@@ -8,8 +8,10 @@ use reference::generate::{random_half, random_pixels, random_shape};
 use reference::lists::{random_length, random_work};
 use reference::random::Random;
 use reference::shape::{shape_kernel_by, Direction, Shape};
-use reference::smooth::{self, exact_run, within_half_per_step};
-use vokhsaot::{difference, directional, pixel, run, run_by, shown, Difference, Error};
+use reference::smooth::{self as smoothing, exact_run, within_half_per_step};
+use vokhsaot::{
+    difference, directional, pixel, run, run_by, shown, smooth, smooth_by, Difference, Error,
+};
 
 const DIFFERENCES: [(Difference, ModelDifference); 5] = [
     (Difference::FirstX, ModelDifference::X),
@@ -67,7 +69,7 @@ fn pixels_at_places() {
         let (column, row) = (place(), place());
         assert_eq!(
             numbered(pixel(&picture, width, height, column, row)),
-            smooth::read(&picture, width, height, column, row),
+            smoothing::read(&picture, width, height, column, row),
             "{width} {height} {column} {row}"
         );
     }
@@ -116,11 +118,26 @@ impl Run {
         let shape = shape_of(self.shape);
         let given = run(shape, steps, width, height, &mut first, &mut second);
         let lent = (&mut model_first, &mut model_second);
-        let expected = smooth::run(self.shape, steps, width, height, lent.0, lent.1);
+        let expected = smoothing::run(self.shape, steps, width, height, lent.0, lent.1);
         assert_eq!(numbered(given), expected, "{:?} {steps}", self.shape);
         assert_eq!(first, model_first, "{:?} {steps}", self.shape);
         assert_eq!(second, model_second, "{:?} {steps}", self.shape);
         (given, first, second)
+    }
+
+    /// A smoothed picture is what a run shows, and is refused as a run is whose two pictures have that length.
+    fn compare_smoothed(&self, left: &[Left; 2]) {
+        let (steps, width, height) = (self.steps, self.width, self.height);
+        let (shape, pixels) = (shape_of(self.shape), &self.first);
+        let [binomial, smallest] = [&left[0], &left[1]].map(|(given, first, second)| {
+            given.and_then(|()| shown(steps, first, second).map(<[u16]>::to_vec))
+        });
+        for ((choice, _), expected) in CHOICES.into_iter().zip([&binomial, &smallest]) {
+            let smoothed = smooth_by(choice, shape, steps, width, height, pixels);
+            assert_eq!(smoothed, *expected, "{choice:?} {shape:?} {steps}");
+        }
+        let smoothed = smooth(shape, steps, width, height, pixels);
+        assert_eq!(smoothed, binomial, "{shape:?} {steps}");
     }
 
     /// The run by each choice against the independent program's, within k/2 of the exact one; and without a choice
@@ -137,7 +154,7 @@ impl Run {
             let shape = shape_of(self.shape);
             let given = run_by(choice, shape, steps, width, height, &mut first, &mut second);
             let lent = (&mut model_first, &mut model_second);
-            let expected = smooth::run_by(
+            let expected = smoothing::run_by(
                 model_choice,
                 self.shape,
                 steps,
@@ -152,7 +169,7 @@ impl Run {
             if given.is_ok() && first.len() <= 200 {
                 let kernel = shape_kernel_by(model_choice, self.shape, steps).unwrap();
                 let exact = exact_run(&kernel, &self.first, width, height, steps);
-                let last = shown(steps, &first, &second);
+                let last = shown(steps, &first, &second).unwrap();
                 assert!(
                     within_half_per_step(last, &exact, kernel.sum, steps),
                     "{name} {choice:?}"
@@ -161,6 +178,9 @@ impl Run {
             (given, first, second)
         });
         assert_eq!(self.without_choice(), left[0], "{name}");
+        if self.first.len() == self.second.len() {
+            self.compare_smoothed(&left);
+        }
         left
     }
 }
@@ -175,6 +195,20 @@ fn runs_between_two_pictures() {
         differ += u32::from(binomial != smallest);
     }
     assert!(accepted > 1000 && differ > 500, "{accepted} {differ}");
+}
+
+/// Of two pictures the one of the last step by the number's parity; refusal 5 where no run has so many steps.
+#[test]
+fn pictures_shown() {
+    let (first, second) = ([1, 2], [3, 4]);
+    for steps in (0..=200).chain([1 << 16, 1 << 31, u32::MAX]) {
+        let expected = match (steps, steps % 2) {
+            (1..=64, 0) => Ok(&first[..]),
+            (1..=64, _) => Ok(&second[..]),
+            _ => Err(Error::StepsOutOfRange),
+        };
+        assert_eq!(shown(steps, &first, &second), expected, "{steps}");
+    }
 }
 
 /// All shapes of a grid that has the places where f changes, over a bright pixel in the middle, in a corner, and none.
@@ -256,7 +290,7 @@ fn directional_differences() {
             model::directional(direction, &picture, width, height, &mut model_result),
             "{direction:?} {width} {height}"
         );
-        // Document 01 counts the two zeros as equal, and so does this comparison.
+        // X9 counts the two zeros as equal, and so does this comparison.
         assert_eq!(result, model_result, "{direction:?} {width} {height}");
     }
 }

@@ -110,7 +110,7 @@ impl Work {
         smooth::run_by(self.choice.1, shape, steps, width, height, lent.0, lent.1).unwrap();
         assert_eq!(first, model_first, "{self:?} {width} {height}");
         assert_eq!(second, model_second, "{self:?} {width} {height}");
-        shown(steps, &first, &second).to_vec()
+        shown(steps, &first, &second).unwrap().to_vec()
     }
 
     /// The service hands the same over, if it goes by this choice and holds such a picture.

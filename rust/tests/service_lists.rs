@@ -11,7 +11,9 @@ use reference::random::Random;
 use reference::service as model;
 use reference::service::{Record, Slot};
 use reference::shape::Shape as ModelShape;
-use vokhsaot::{run, run_by, shown, Choice, Error, Service, Shape, STORE_PIXELS, WORDS};
+use vokhsaot::{
+    smooth, smooth_by, Choice, Covariance, Error, Job, Service, Shape, STORE_PIXELS, WORDS,
+};
 
 /// Calls of one list.
 const CALLS: u64 = 400;
@@ -40,6 +42,28 @@ fn words_of(record: &Record) -> Vec<u64> {
         u64::from(record.last_served),
     ]);
     words
+}
+
+/// The jobs of a record as the library tells them: none where it is not in order.
+fn jobs_of(record: &Record) -> Vec<Job> {
+    let told = model::in_order(record);
+    let seats = record.slots.iter().enumerate();
+    let filled = seats.filter(|(_, slot)| told && slot.number != 0);
+    filled
+        .map(|(seat, slot)| Job {
+            number: slot.number,
+            seat,
+            covariance: Covariance {
+                xx: slot.xx,
+                xy: slot.xy,
+                yy: slot.yy,
+            },
+            steps: slot.steps,
+            steps_left: slot.steps_left,
+            width: slot.width,
+            height: slot.height,
+        })
+        .collect()
 }
 
 /// The record of a service with one field changed to something else.
@@ -154,10 +178,14 @@ impl Pair {
             }
             _ => {
                 let expected = model::free_count(&self.record);
-                counts.take("free", numbered(self.proved.free()), expected);
+                counts.take("free count", numbered(self.proved.free_count()), expected);
             }
         }
         assert_eq!(self.proved.words(), words_of(&self.record), "record");
+        let jobs = jobs_of(&self.record);
+        assert_eq!(self.proved.jobs(), jobs, "jobs");
+        let found = jobs.into_iter().find(|held| held.number == job);
+        assert_eq!(self.proved.job(job), found, "job {job}");
         assert!(self.proved.store() == self.store, "store");
     }
 }
@@ -268,7 +296,7 @@ impl Calls for Proved {
     }
 
     fn free(&self) -> Result<u32, ErrorCode> {
-        numbered(self.0.free())
+        numbered(self.0.free_count())
     }
 
     fn store(&self) -> &[u16] {
@@ -312,27 +340,15 @@ fn jobs_go_by_the_smallest_choice() {
         let (width, height) = random_sides(&mut random);
         let area = u64::from(width) * u64::from(height);
         let picture = random_pixels(&mut random, area.min(1024) as usize);
-        let (mut first, mut second) = (picture.clone(), vec![0; picture.len()]);
-        let (mut one, mut other) = (first.clone(), second.clone());
         let shape = shape_of(shape);
         let smallest = Choice::Smallest;
-        let answer = run_by(
-            smallest,
-            shape,
-            steps,
-            width,
-            height,
-            &mut first,
-            &mut second,
-        );
-        if answer.is_err() {
+        let Ok(expected) = smooth_by(smallest, shape, steps, width, height, &picture) else {
             continue;
-        }
-        let expected = shown(steps, &first, &second);
+        };
         let handed_over = handed_over(shape, steps, width, height, &picture);
         assert_eq!(handed_over, expected, "{shape:?} {steps} {width} {height}");
-        run(shape, steps, width, height, &mut one, &mut other).unwrap();
-        differ += u32::from(handed_over != shown(steps, &one, &other));
+        let binomial = smooth(shape, steps, width, height, &picture).unwrap();
+        differ += u32::from(handed_over != binomial);
     }
     assert!(differ > 500, "{differ}");
 }
@@ -371,7 +387,8 @@ fn words_that_are_no_record() {
         assert_eq!(service.collect(1, &mut lent), Err(Error::RecordOutOfOrder));
         assert_eq!(lent, picture);
         assert_eq!(service.withdraw(1), Err(Error::RecordOutOfOrder));
-        assert_eq!(service.free(), Err(Error::RecordOutOfOrder));
+        assert_eq!(service.free_count(), Err(Error::RecordOutOfOrder));
+        assert_eq!((service.jobs(), service.job(1)), (Vec::new(), None));
         assert!(service == start);
     }
 }

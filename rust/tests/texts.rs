@@ -9,11 +9,11 @@ use reference::generate::{
 };
 use reference::job_text::{answer, gcd, parse, print, Job, MAX_TEXT};
 use reference::random::Random;
-use vokhsaot::{answer_text, kernel, run, shown, Kernel, Shape, MOST_ANSWER_BYTES};
+use vokhsaot::{answer_text, kernel, smooth, Kernel, Shape, ANSWER_BYTES, TEXT_BYTES};
 
 fn compare(text: &[u8]) -> Vec<u8> {
     let expected = answer(text);
-    assert!(expected.len() <= MOST_ANSWER_BYTES);
+    assert!(expected.len() <= ANSWER_BYTES);
     let given = answer_text(text);
     assert!(given == expected, "{}", String::from_utf8_lossy(text));
     given
@@ -73,7 +73,7 @@ fn jobs_and_damaged_jobs() {
     }
 }
 
-/// Document 02's case a, whole, and the kernel line of case e.
+/// Case a of docs/REFERENCE.md, whole, and the kernel line of case e.
 #[test]
 fn the_listing() {
     let text = b"J\t2048\t0\t2048\t1\t3\t3\n0\t0\t0\n0\t1600\t0\n0\t0\t0\n";
@@ -109,10 +109,9 @@ fn texts_name_no_choice() {
         let pixels = random_pixels(&mut random, (width * height) as usize);
         let (xx, xy, yy) = (covariance.xx, covariance.xy, covariance.yy);
         let shape = Shape::Matrix { xx, xy, yy };
-        let (mut first, mut second) = (pixels.clone(), vec![0; pixels.len()]);
-        if run(shape, steps, width, height, &mut first, &mut second).is_err() {
+        let Ok(smoothed) = smooth(shape, steps, width, height, &pixels) else {
             continue;
-        }
+        };
         let text = print(&Job {
             covariance,
             steps,
@@ -125,8 +124,7 @@ fn texts_name_no_choice() {
         let own = reduced(kernel(shape, steps).unwrap());
         assert_eq!(numbers(lines.next().unwrap()), own, "{shape:?} {steps}");
         let after: Vec<u64> = lines.skip(1).flat_map(numbers).collect();
-        let shown = shown(steps, &first, &second);
-        assert!(shown.iter().map(|pixel| u64::from(*pixel)).eq(after));
+        assert!(smoothed.into_iter().map(u64::from).eq(after));
         compared += 1;
     }
     assert!(compared > 1000, "{compared}");
@@ -136,7 +134,7 @@ fn texts_name_no_choice() {
 #[test]
 fn the_longest_text() {
     let text = longest_text(0);
-    assert_eq!(text.len(), MAX_TEXT);
+    assert_eq!([text.len(), MAX_TEXT], [TEXT_BYTES; 2]);
     assert!(compare(&text).starts_with(b"K\t"));
     assert_eq!(compare(&longest_text(1)), b"R\t1\n");
     assert_eq!(compare(&[&text[..], b"0\n"].concat()), b"R\t1\n");

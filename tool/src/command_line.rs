@@ -2,8 +2,8 @@
 
 use crate::error::{Failure, Outcome, TROUBLE};
 use crate::files;
-use crate::{compare, completions, difference, horizon, kernel, manual, mixture, practice, replay};
-use crate::{show, smooth, soak, stats, steps};
+use crate::{compare, completions, difference, even, horizon, kernel, manual, mixture, noise};
+use crate::{practice, replay, show, smooth, soak, stats, steps};
 use clap::builder::{Resettable, StyledStr, ValueParser};
 use clap::error::{ContextKind, ContextValue, ErrorKind};
 use clap::{Arg, CommandFactory, FromArgMatches, Parser, Subcommand, ValueHint};
@@ -59,6 +59,8 @@ pub enum Command {
     Practice(practice::Options),
     Mixture(mixture::Options),
     Horizon(horizon::Options),
+    Even(even::Options),
+    Noise(noise::Options),
     Completions(completions::Options),
     Manual(manual::Options),
 }
@@ -78,6 +80,8 @@ impl Command {
             Command::Practice(options) => practice::command(options),
             Command::Mixture(options) => mixture::command(options),
             Command::Horizon(options) => horizon::command(options),
+            Command::Even(options) => even::command(options),
+            Command::Noise(options) => noise::command(options),
             Command::Completions(options) => completions::command(options),
             Command::Manual(options) => manual::command(options),
         }
@@ -309,7 +313,7 @@ fn message(error: &clap::Error, words: &[OsString]) -> String {
         }
         ErrorKind::ArgumentConflict => match context(ContextKind::PriorArg) {
             Some(prior) if prior != argument => {
-                format!("{} cannot stand with {}", bare(&argument), bare(&prior))
+                format!("{} cannot stand with {}", typed(&argument), typed(&prior))
             }
             _ => format!("{} is given twice", bare(&argument)),
         },
@@ -317,10 +321,10 @@ fn message(error: &clap::Error, words: &[OsString]) -> String {
     }
 }
 
-/// An option or an operand as the help names it: `<INPUT>` is `INPUT`.
+/// An option or an operand as the help names it: `<INPUT>` and `[INPUT]` are `INPUT`.
 fn typed(argument: &str) -> &str {
-    match argument.strip_prefix('<') {
-        Some(operand) => operand.trim_end_matches(['>', '.']),
+    match argument.strip_prefix(['<', '[']) {
+        Some(operand) => operand.trim_end_matches(['>', ']', '.']),
         None => bare(argument),
     }
 }

@@ -12,7 +12,7 @@ use crate::shape::{
 use crate::stats::mean;
 use reference::shape::shape_kernel_by;
 use std::ffi::OsString;
-use vokhsaot::{shown, Choice};
+use vokhsaot::Choice;
 
 /// Compare two pictures, or one with a run of another
 #[derive(clap::Args)]
@@ -251,13 +251,8 @@ fn other_maker(work: Work, one: &Picture, other: &Picture) -> Result<Option<Choi
 
 /// What the library's run makes of a picture.
 fn after(work: Work, picture: &Picture) -> Result<Picture, Failure> {
-    let mut first = picture.pixels.clone();
-    let mut second = vec![0; first.len()];
-    let (width, height) = (picture.width, picture.height);
-    work.run(width, height, &mut first, &mut second)
+    let pixels = work
+        .smooth(picture.width, picture.height, &picture.pixels)
         .map_err(|refusal| explained(refusal, work))?;
-    Ok(Picture {
-        pixels: shown(work.steps, &first, &second).to_vec(),
-        ..*picture
-    })
+    Ok(Picture { pixels, ..*picture })
 }

@@ -2,10 +2,10 @@
 
 use crate::error::{say, Failure, Outcome};
 use crate::files;
+use crate::numbers::rows;
 use crate::pictures::Picture;
 use crate::shape;
 use std::ffi::OsString;
-use std::fmt::Display;
 use std::io::{self, IsTerminal};
 use vokhsaot::{difference, directional, Difference, Direction};
 
@@ -118,17 +118,6 @@ pub fn command(options: &Options) -> Result<Outcome, Failure> {
         say(&scale.text());
     }
     Ok(Outcome::Good)
-}
-
-/// The entries by rows, tabs between.
-fn rows<T: Display>(entries: &[T], width: u32) -> String {
-    let mut text = String::new();
-    for row in entries.chunks(width as usize) {
-        let row: Vec<String> = row.iter().map(T::to_string).collect();
-        text += &row.join("\t");
-        text.push('\n');
-    }
-    text
 }
 
 /// Grey = 32768 + difference × `grey` / `size`: the largest factor with which no difference leaves 0 to 65535, so that

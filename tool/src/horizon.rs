@@ -3,11 +3,11 @@
 
 use crate::error::{Failure, Outcome};
 use crate::files;
-use crate::numbers::{long_unsigned, unsigned, MOST_SIDE};
+use crate::numbers::long_unsigned;
 use crate::pictures::Picture;
+use crate::sides::Sides;
 use reference::random::Random;
 use std::ffi::OsString;
-use vokhsaot::Error;
 
 /// Make a synthetic horizon picture
 #[derive(clap::Args)]
@@ -20,12 +20,8 @@ Examples:
   $ vokhsaot horizon --width 64 --height 48 --seed 7 horizon.pgm"
 )]
 pub struct Options {
-    /// Its width, 1 to 1024
-    #[arg(long, value_name = "W", value_parser = unsigned, allow_hyphen_values = true)]
-    width: u32,
-    /// Its height, 1 to 1024
-    #[arg(long, value_name = "H", value_parser = unsigned, allow_hyphen_values = true)]
-    height: u32,
+    #[command(flatten)]
+    sides: Sides,
     /// The seed of limb, noise and glints
     #[arg(long, value_name = "S", value_parser = long_unsigned, allow_hyphen_values = true)]
     seed: u64,
@@ -46,11 +42,8 @@ const MOST_FADING: i64 = 16_000;
 const NOISE: i64 = 600;
 
 pub fn command(options: &Options) -> Result<Outcome, Failure> {
-    let sides = [options.width, options.height];
-    if !sides.iter().all(|side| (1..=MOST_SIDE).contains(side)) {
-        return Err(Error::SideOutOfRange.into());
-    }
-    let picture = picture(options.width, options.height, options.seed);
+    let (width, height) = options.sides.read()?;
+    let picture = picture(width, height, options.seed);
     files::write_picture(&options.output, &picture)?;
     Ok(Outcome::Good)
 }

@@ -8,7 +8,7 @@
 use crate::error::refusal_text;
 use crate::ledger::{first_difference, pixel_text, Handed, Job, Ledger, Wait};
 use crate::list::{Call, Store, Submission};
-use crate::model::{Model, SEAT_WORDS};
+use crate::model::Model;
 use crate::numbers::counted;
 use crate::rules::{Difference, Rule};
 use crate::services::{Opening, Service};
@@ -16,7 +16,7 @@ use crate::watch;
 use std::cell::Cell;
 use std::panic::{self, AssertUnwindSafe};
 use std::sync::Once;
-use vokhsaot::{Error, BUFFER_PIXELS, SEATS, STORE_PIXELS, WORDS};
+use vokhsaot::{Error, BUFFER_PIXELS, SEATS, SEAT_WORDS, STORE_PIXELS, WORDS};
 
 /// The answer to a call that was not refused.
 #[derive(Clone, Copy, Debug, PartialEq, Eq)]
@@ -462,7 +462,8 @@ fn answer_rule(call: &Call, answer: Answered, due: Answered) -> Rule {
         (Call::Tick(_), Ok(_), Ok(_)) => Rule::ServedWithoutSteps,
         (Call::Tick(_), ..) => Rule::RefusalOrder,
         (_, Ok(_), Ok(_)) => Rule::OwnNumber,
-        (Call::Collect { .. }, ..) => Rule::CollectAccepted,
+        (Call::Collect { .. }, Ok(_), _) => Rule::CollectedEarly,
+        (Call::Collect { .. }, ..) => Rule::FinishedCollected,
         (Call::Withdraw(_), ..) => Rule::WithdrawAccepted,
     }
 }
@@ -475,7 +476,8 @@ fn state_rules(call: &Call, due: Answered) -> (Rule, Rule) {
         (Call::Tick(_), Ok(Answer::Idle)) => (Rule::IdleChangesNothing, Rule::IdleChangesNothing),
         (Call::Tick(_), _) => (Rule::TickRecord, Rule::TickStore),
         (Call::Free, _) => (Rule::CountChangesNothing, Rule::CountChangesNothing),
-        _ => (Rule::LeaveRecord, Rule::LeaveStore),
+        (Call::Collect { .. }, _) => (Rule::CollectRecord, Rule::LeaveStore),
+        _ => (Rule::WithdrawRecord, Rule::LeaveStore),
     }
 }
 
@@ -724,7 +726,7 @@ mod tests {
                 "no refusal has this number"
             );
             self.has_moved.set(self.bend == Bend::CountMoves);
-            self.inner.free()
+            self.inner.free_count()
         }
 
         fn words(&self) -> &[u64] {

@@ -1,5 +1,5 @@
-//! Demand 3 on a list itself: jobs, held, steps left, finished and free as document 01 takes them from the calls and their
-//! answers, never from the record.
+//! Demand 3 on a list itself: jobs, held, steps left, finished and free as docs/REFERENCE.md (L6) takes them from the calls
+//! and their answers, never from the record.
 
 use crate::exact::{Farthest, Run};
 use crate::list::Submission;
@@ -295,7 +295,7 @@ impl Ledger {
             Some(job) if job.picture.len() != length => Err(Error::WrongLength),
             Some(_) => Ok(number),
         };
-        self.leave(Rule::CollectAccepted, number, due, answer)
+        self.leave(Rule::FinishedCollected, number, due, answer)
     }
 
     pub fn withdraw(
@@ -321,7 +321,8 @@ impl Ledger {
             (Ok(_), Ok(_)) => Rule::OwnNumber,
             (Err(_), Err(_)) => Rule::RefusalOrder,
             // That no collect is accepted before the job is finished is a sentence of its own.
-            (Ok(_), Err(refusal)) if refusal != Error::StepsAreLeft => Rule::NotRefused,
+            (Ok(_), Err(Error::StepsAreLeft)) => Rule::CollectedEarly,
+            (Ok(_), Err(_)) => Rule::NotRefused,
             _ => rule,
         };
         let mut differences = Vec::new();

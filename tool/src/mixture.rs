@@ -259,10 +259,10 @@ impl Mixture {
     }
 }
 
-fn oval(long: f64, short: f64, cosine: f64, sine: f64) -> Shape {
+fn oval(long_variance: f64, short_variance: f64, cosine: f64, sine: f64) -> Shape {
     Shape::Oval {
-        long,
-        short,
+        long_variance,
+        short_variance,
         direction: Direction { cosine, sine },
     }
 }

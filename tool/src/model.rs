@@ -5,10 +5,7 @@ use reference::kernel::{Choice as ReferenceChoice, Covariance};
 use reference::lists::{Calls, Model as Reference};
 use reference::service::{Record, Slot, SLOTS, STORE_PIXELS};
 use reference::shape::{Direction, Shape as ReferenceShape};
-use vokhsaot::{Choice, Error, Shape, WORDS};
-
-/// Words of one seat.
-pub const SEAT_WORDS: usize = 8;
+use vokhsaot::{Choice, Error, Shape, SEAT_WORDS, WORDS};
 
 /// A shape as the independent program has it.
 pub fn shape_of(shape: Shape) -> ReferenceShape {
@@ -16,12 +13,12 @@ pub fn shape_of(shape: Shape) -> ReferenceShape {
         Shape::Matrix { xx, xy, yy } => ReferenceShape::Matrix(Covariance { xx, xy, yy }),
         Shape::Round(variance) => ReferenceShape::Round(variance),
         Shape::Oval {
-            long,
-            short,
+            long_variance,
+            short_variance,
             direction,
         } => ReferenceShape::Oval {
-            long,
-            short,
+            long: long_variance,
+            short: short_variance,
             direction: Direction {
                 cosine: direction.cosine,
                 sine: direction.sine,

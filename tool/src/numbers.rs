@@ -4,7 +4,7 @@ use std::fmt;
 use std::ops::RangeInclusive;
 
 /// The longest side of a picture that the library takes: nothing longer is made.
-pub const MOST_SIDE: u32 = 1024;
+pub const MOST_SIDE: u32 = vokhsaot::LONGEST_SIDE;
 
 /// A whole number in a range; the message for anything else names both.
 pub fn whole<T: TryFrom<i128>>(text: &str, range: RangeInclusive<i128>) -> Result<T, String> {
@@ -44,6 +44,17 @@ pub fn counted(count: u64, what: &str) -> String {
         1 => format!("1 {what}"),
         _ => format!("{count} {what}s"),
     }
+}
+
+/// Entries by rows: a row a line, tabs between.
+pub fn rows<T: fmt::Display>(entries: &[T], width: u32) -> String {
+    let mut text = String::new();
+    for row in entries.chunks(width as usize) {
+        let row: Vec<String> = row.iter().map(T::to_string).collect();
+        text += &row.join("\t");
+        text.push('\n');
+    }
+    text
 }
 
 /// A fraction in lowest terms with a positive denominator.

@@ -161,7 +161,7 @@ fn answer_text(place: usize) -> String {
     let shows = |shows: bool| if shows { "shows" } else { "does not show" };
     let mut text = format!("# Service {}: {}\n", place + 1, exercise.fault_text);
     for rule in exercise.broken() {
-        text += &format!("# Broken: {}: {}\n", rule.name(), rule.sentence());
+        text += &format!("# Broken: {}: {}\n", rule.name(), rule.cited());
     }
     text += &format!(
         "# The panel {} it (three jobs, ticks until idle, all collected, 16 free).\n\

@@ -1,4 +1,4 @@
-//! The sentences of the demands and of document 01 that a service is held to, and a difference from one of them.
+//! The sentences of docs/REFERENCE.md that a service is held to, and a difference from one of them.
 
 use std::fmt;
 
@@ -15,7 +15,8 @@ pub enum Rule {
     IdleWithStepsLeft,
     ServedWithoutSteps,
     Turn,
-    CollectAccepted,
+    FinishedCollected,
+    CollectedEarly,
     WithdrawAccepted,
     OwnNumber,
     FreeBuffers,
@@ -25,7 +26,8 @@ pub enum Rule {
     SubmitStore,
     TickRecord,
     TickStore,
-    LeaveRecord,
+    CollectRecord,
+    WithdrawRecord,
     LeaveStore,
     CountChangesNothing,
     LoneRun,
@@ -34,134 +36,222 @@ pub enum Rule {
     Wait,
 }
 
+/// What is wrong in capitals, and the sentences that are broken, with their ids.
+type Texts = (&'static str, &'static [(&'static str, &'static str)]);
+
 impl Rule {
     /// What is wrong, in capitals.
     pub fn name(self) -> &'static str {
         self.texts().0
     }
 
-    /// The sentence that is broken, of the demands or of document 01; where one of these leans on others, with their words.
-    pub fn sentence(self) -> &'static str {
-        self.texts().1
+    /// The sentence that is broken, after its id; where what is seen does not part several sentences, that it is one of them.
+    pub fn cited(self) -> String {
+        let sentences = self.texts().1.iter();
+        let cited = sentences.map(|(id, sentence)| format!("{id}, {sentence}."));
+        let cited = cited.collect::<Vec<String>>();
+        let before = if cited.len() > 1 { "one of " } else { "" };
+        format!("{before}{}", cited.join(" "))
     }
 
-    fn texts(self) -> (&'static str, &'static str) {
+    /// Sentences of docs/REFERENCE.md or parts of them, word for word; what stands in square brackets stands for other words.
+    fn texts(self) -> Texts {
         match self {
             Rule::Ends => (
                 "NO ANSWER",
-                "Whoever calls gets an answer or one numbered refusal, and the call ends.",
+                &[(
+                    "D3",
+                    "Whoever calls gets an answer or one numbered refusal, and the call ends",
+                )],
             ),
             Rule::Opening => (
                 "WRONG OPENING",
-                "Opening: all empty, last number 0, both named seats 7.",
+                &[("V9", "Opening: all empty, last number 0, both named seats 7")],
             ),
             Rule::SubmitAccepted => (
                 "WRONG ANSWER",
-                "A submit is accepted where no refusal from 3 to 11 in checking order applies to it, fewer jobs are held \
-                 than there are seats, and fewer than 2^64 − 1 jobs came before it.",
+                &[(
+                    "L8",
+                    "A submit is accepted where no refusal from 3 to 11 in checking order applies to it, fewer jobs are \
+                     held than there are seats, and fewer than 2^64 − 1 jobs came before it",
+                )],
             ),
             Rule::NotRefused => (
                 "NOT REFUSED",
-                "Each call checks those refusals that concern it, in their order.",
+                &[(
+                    "N0",
+                    "Each call checks those [refusals] that concern it, in this order [(of a submit: O4, of a collect: \
+                     O6, of a withdraw: O7)]",
+                )],
             ),
             Rule::RefusalOrder => (
                 "WRONG REFUSAL",
-                "Each call checks those refusals that concern it, in their order, and a refusal answers its number alone.",
+                &[(
+                    "N0",
+                    "Each call checks those [refusals] that concern it, in this order [(of a submit: O4, of a tick: O5, \
+                     of a collect: O6, of a withdraw: O7)], and a refusal answers its number alone",
+                )],
             ),
-            Rule::NextNumber => ("WRONG NUMBER", "Submit gives the next number."),
+            Rule::NextNumber => ("WRONG NUMBER", &[("V12", "Submit gives the next number")]),
             Rule::NumberTwice => (
                 "NUMBER GIVEN TWICE",
-                "Numbers are not given twice from one opening.",
+                &[("V26", "Numbers are not given twice from one opening")],
             ),
-            Rule::IdleWithStepsLeft => (
-                "IDLE WITH STEPS LEFT",
-                "Tick answers idle where no seat has steps left, and only there.",
-            ),
-            Rule::ServedWithoutSteps => (
-                "SERVED A JOB WITHOUT STEPS LEFT",
-                "Tick answers idle where no seat has steps left, and only there.",
-            ),
+            Rule::IdleWithStepsLeft => ("IDLE WITH STEPS LEFT", IDLE),
+            Rule::ServedWithoutSteps => ("SERVED A JOB WITHOUT STEPS LEFT", IDLE),
             Rule::Turn => (
                 "OUT OF TURN",
-                "Tick serves, counted cyclically from the one after the seat last served, the first seat with steps left.",
+                &[(
+                    "V14",
+                    "Tick serves, counted cyclically from the one after the seat last served, the first seat with steps \
+                     left",
+                )],
             ),
-            Rule::CollectAccepted => (
+            Rule::FinishedCollected => (
                 "WRONG ANSWER",
-                "While a job is held and finished, a collect of it with a lent picture of w × h pixels is accepted; before \
-                 it is finished none is.",
+                &[(
+                    "L13",
+                    "While a job is held and finished, a collect of it with a lent picture of w × h pixels is accepted",
+                )],
+            ),
+            Rule::CollectedEarly => (
+                "WRONG ANSWER",
+                &[("L14", "Before a job is finished no collect of it is accepted")],
             ),
             Rule::WithdrawAccepted => (
                 "WRONG ANSWER",
-                "While a job is held, a withdraw of it is accepted.",
+                &[(
+                    "L10",
+                    "While [a job] is held, a withdraw of it is accepted",
+                )],
             ),
             Rule::OwnNumber => (
                 "WRONG NUMBER",
-                "Collect and withdraw answer the job number.",
+                &[("V23", "Collect and withdraw answer the job number")],
             ),
             Rule::FreeBuffers => (
                 "WRONG FREE COUNT",
-                "Free buffers are 16 less 2 for each job submitted and neither collected nor withdrawn.",
+                &[(
+                    "V25",
+                    "From an opening on, free buffers are 16 less 2 for each job submitted and neither collected nor \
+                     withdrawn",
+                )],
             ),
             Rule::RefusalChangesNothing => (
                 "A REFUSAL CHANGED SOMETHING",
-                "A refusal answers its number alone; record, store and every lent buffer keep their contents.",
+                &[(
+                    "D4",
+                    "A refusal changes nothing: no record, no lent picture, store or result",
+                )],
             ),
             Rule::IdleChangesNothing => (
                 "AN IDLE TICK CHANGED SOMETHING",
-                "Tick answers idle where no seat has steps left, and then changes nothing.",
+                &[(
+                    "V19",
+                    "[Tick] answers idle where no seat has steps left, and only there, and then changes nothing",
+                )],
             ),
             Rule::SubmitRecord => (
                 "WRONG RECORD",
-                "Submit fills the first empty seat counted on cyclically from the one after the seat last filled, with job \
-                 number, xx, xy, yy, steps, steps left, w and h, and gives the next number.",
+                &[
+                    (
+                        "V10",
+                        "Submit fills the first empty seat counted on cyclically from the one after the seat last filled",
+                    ),
+                    (
+                        "V13",
+                        "Submit fills that seat with job number, xx, xy, yy, steps, steps left, w and h, all steps being \
+                         left, names it as the seat last filled, and changes nothing else of the record",
+                    ),
+                ],
             ),
             Rule::SubmitStore => (
                 "WRONG STORE",
-                "Submit copies the picture to the start of buffer 2i.",
+                &[(
+                    "V11",
+                    "Submit copies the picture to the start of buffer 2i and changes no other pixel of the store",
+                )],
             ),
             Rule::TickRecord => (
                 "WRONG RECORD",
-                "Tick does one step of the first seat with steps left, counted cyclically from the one after the seat last \
-                 served.",
+                &[(
+                    "V17",
+                    "Tick takes one off the steps left of the seat that it serves, names it as the seat last served, and \
+                     changes nothing else of the record",
+                )],
             ),
             Rule::TickStore => (
                 "WRONG STORE",
-                "Tick does one step, from the buffer of the current picture to the seat's other one, w × h pixels only.",
+                &[(
+                    "V15",
+                    "Tick does one step, from the buffer of the current picture to the seat's other one, w × h pixels only",
+                )],
             ),
-            Rule::LeaveRecord => (
+            Rule::CollectRecord => (
                 "WRONG RECORD",
-                "Collect and withdraw empty the seat, and keep the last number and the named seats.",
+                &[
+                    ("V21", "Collect writes it out and empties the seat"),
+                    KEEPS,
+                ],
+            ),
+            Rule::WithdrawRecord => (
+                "WRONG RECORD",
+                &[("V22", "Withdraw empties the seat, finished or not"), KEEPS],
             ),
             Rule::LeaveStore => (
                 "WRONG STORE",
-                "Neither collect nor withdraw changes the store.",
+                &[("V23", "[Of collect and withdraw] neither changes the store")],
             ),
             Rule::CountChangesNothing => (
                 "THE FREE COUNT CHANGED SOMETHING",
-                "Free buffers at a place are what the free count, called there as well, answers.",
+                &[("V24", "The free count changes nothing")],
             ),
             Rule::LoneRun => (
                 "WRONG PICTURE",
-                "Each pixel that a collect hands over equals what the job gets alone: its picture after k steps of its \
-                 kernel, each to the nearest unit, halves up.",
+                &[(
+                    "L16",
+                    "Alone [a job] gets its picture after k steps of its kernel, each rounded [to the nearest unit, halves \
+                     up], and each pixel that a collect hands over equals what the job gets alone",
+                )],
             ),
             Rule::HalfPerStep => (
                 "TOO FAR FROM THE EXACT RUN",
-                "Each pixel that a collect hands over for a job of k steps lies within k/2 units of an exact run of that \
-                 job alone in fractions.",
+                &[(
+                    "L18",
+                    "Each pixel that a collect hands over for a job of k steps lies within k/2 units of an exact run of \
+                     that job alone in fractions",
+                )],
             ),
             Rule::LoneService => (
                 "NOT AS ALONE",
-                "A service opened for it only, with its submit, k ticks and a collect, hands over the same.",
+                &[(
+                    "L17",
+                    "A service opened for [the job] only, with its submit, k ticks and a collect, hands over the same",
+                )],
             ),
             Rule::Wait => (
                 "WAITS TOO LONG",
-                "Where a held job has r steps left and 8 × r more ticks follow in the list, it is finished or was withdrawn \
-                 by the last of them.",
+                &[(
+                    "L20",
+                    "Where a held job has r steps left and 8 × r more ticks follow in the list, it is finished or was \
+                     withdrawn by the last of them",
+                )],
             ),
         }
     }
 }
+
+/// Of idle ticks, and of those that should have been.
+const IDLE: &[(&str, &str)] = &[(
+    "V19",
+    "[Tick] answers idle where no seat has steps left, and only there",
+)];
+
+/// Of the record after a collect and after a withdraw.
+const KEEPS: (&str, &str) = (
+    "V23",
+    "Collect and withdraw [both] keep the last number and the named seats",
+);
 
 /// A rule that was broken, with what came and what was due.
 #[derive(Clone, Debug, PartialEq, Eq)]
@@ -182,6 +272,123 @@ impl Difference {
 impl fmt::Display for Difference {
     fn fmt(&self, f: &mut fmt::Formatter<'_>) -> fmt::Result {
         let Difference { rule, detail } = self;
-        write!(f, "{}: {detail}. Broken: {}", rule.name(), rule.sentence())
+        write!(f, "{}: {detail}. Broken: {}", rule.name(), rule.cited())
+    }
+}
+
+#[cfg(test)]
+mod tests {
+    use super::*;
+
+    const REFERENCE: &str = include_str!("../../docs/REFERENCE.md");
+
+    const ALL: [Rule; 29] = [
+        Rule::Ends,
+        Rule::Opening,
+        Rule::SubmitAccepted,
+        Rule::NotRefused,
+        Rule::RefusalOrder,
+        Rule::NextNumber,
+        Rule::NumberTwice,
+        Rule::IdleWithStepsLeft,
+        Rule::ServedWithoutSteps,
+        Rule::Turn,
+        Rule::FinishedCollected,
+        Rule::CollectedEarly,
+        Rule::WithdrawAccepted,
+        Rule::OwnNumber,
+        Rule::FreeBuffers,
+        Rule::RefusalChangesNothing,
+        Rule::IdleChangesNothing,
+        Rule::SubmitRecord,
+        Rule::SubmitStore,
+        Rule::TickRecord,
+        Rule::TickStore,
+        Rule::CollectRecord,
+        Rule::WithdrawRecord,
+        Rule::LeaveStore,
+        Rule::CountChangesNothing,
+        Rule::LoneRun,
+        Rule::HalfPerStep,
+        Rule::LoneService,
+        Rule::Wait,
+    ];
+
+    fn in_one_line(text: &str) -> String {
+        text.split_whitespace().collect::<Vec<&str>>().join(" ")
+    }
+
+    /// The sentence of an id: from the id to the next list entry or empty line.
+    fn sentence(id: &str) -> Option<String> {
+        let (_, rest) = REFERENCE.split_once(&format!("\n- **{id}.** "))?;
+        let end = ["\n- ", "\n\n"].iter().filter_map(|end| rest.find(end));
+        Some(in_one_line(&rest[..end.min().unwrap_or(rest.len())]))
+    }
+
+    /// Whether a quotation's words stand in a sentence, in order; what is in brackets stands for other words. The first
+    /// letter may be a capital here and none there.
+    fn is_quoted(quotation: &str, sentence: &str) -> bool {
+        let sentence = sentence.to_lowercase();
+        let mut left = sentence.as_str();
+        let parts = quotation
+            .split(['[', ']'])
+            .step_by(2)
+            .map(str::to_lowercase);
+        parts.into_iter().all(|part| {
+            let found = left.find(part.trim());
+            left = found.map_or("", |at| &left[at + part.trim().len()..]);
+            found.is_some()
+        })
+    }
+
+    #[test]
+    fn rules_quote_the_reference() {
+        assert_eq!(
+            ALL.map(|rule| rule as usize).to_vec(),
+            (0..ALL.len()).collect::<Vec<_>>()
+        );
+        assert_eq!(Rule::Wait as usize, ALL.len() - 1);
+        for (id, quotation) in ALL.iter().flat_map(|rule| rule.texts().1) {
+            let sentence = sentence(id).unwrap_or_else(|| panic!("docs/REFERENCE.md has no {id}"));
+            assert!(
+                is_quoted(quotation, &sentence),
+                "{id}: {quotation}\n{sentence}"
+            );
+            assert!(!quotation.ends_with('.'), "{quotation}");
+        }
+    }
+
+    #[test]
+    fn quotations_are_word_for_word() {
+        let sentence = "Tick: it answers the job number. It answers idle.";
+        for good in [
+            "Tick",
+            "[A tick] answers idle",
+            "It answers [that] number",
+            "answers idle",
+        ] {
+            assert!(is_quoted(good, sentence), "{good}");
+        }
+        for wrong in [
+            "A tick answers idle",
+            "answers idle [and] number",
+            "answers one idle",
+        ] {
+            assert!(!is_quoted(wrong, sentence), "{wrong}");
+        }
+        assert_eq!(self::sentence("V0"), None);
+    }
+
+    /// Two sentences are one after the other, each with its id.
+    #[test]
+    fn sentences_have_their_ids() {
+        assert_eq!(
+            Rule::NextNumber.cited(),
+            "V12, Submit gives the next number."
+        );
+        let cited = Rule::WithdrawRecord.cited();
+        assert!(
+            cited.starts_with("one of V22, Withdraw ") && cited.contains(" or not. V23, Collect ")
+        );
     }
 }

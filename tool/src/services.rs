@@ -48,7 +48,7 @@ pub trait Service {
     }
 
     fn free(&self) -> Result<u32, Error> {
-        self.within().free()
+        self.within().free_count()
     }
 
     fn words(&self) -> &[u64] {

@@ -3,13 +3,10 @@
 use crate::error::Failure;
 use crate::numbers::{float, unsigned, whole};
 use vokhsaot::{
-    covariance, kernel_by, run_by, Choice, Covariance, Direction, Error, Kernel, Shape,
+    covariance, kernel_by, run_by, smooth_by, Choice, Covariance, Direction, Error, Kernel, Shape,
 };
 
-/// One square pixel of variance in the units of a covariance.
-pub const UNITS: i32 = 4096;
-/// No run has more steps.
-pub const MOST_STEPS: u32 = 64;
+pub use vokhsaot::{MOST_STEPS, UNITS_PER_SQUARE_PIXEL as UNITS};
 
 /// The options of a command that takes a shape.
 #[derive(clap::Args, Clone)]
@@ -171,6 +168,16 @@ impl Work {
         } = *self;
         run_by(choice, shape, steps, width, height, first, second)
     }
+
+    /// The picture after the library's run.
+    pub fn smooth(&self, width: u32, height: u32, pixels: &[u16]) -> Result<Vec<u16>, Error> {
+        let Work {
+            choice,
+            shape,
+            steps,
+        } = *self;
+        smooth_by(choice, shape, steps, width, height, pixels)
+    }
 }
 
 /// The options of a command that takes a shape and a step count.
@@ -229,13 +236,13 @@ pub fn from_fields(kind: &str, fields: &[&str]) -> Result<Shape, String> {
         }),
         ("round", [variance]) => Ok(Shape::Round(float(variance)?)),
         ("oval", [long, short, degrees]) => Ok(Shape::Oval {
-            long: float(long)?,
-            short: float(short)?,
-            direction: of_degrees(float(degrees)?),
+            long_variance: float(long)?,
+            short_variance: float(short)?,
+            direction: Direction::from_degrees(float(degrees)?),
         }),
         ("oval", [long, short, cosine, sine]) => Ok(Shape::Oval {
-            long: float(long)?,
-            short: float(short)?,
+            long_variance: float(long)?,
+            short_variance: float(short)?,
             direction: Direction {
                 cosine: float(cosine)?,
                 sine: float(sine)?,
@@ -264,17 +271,17 @@ pub fn words(shape: Shape) -> String {
         Shape::Matrix { xx, xy, yy } => format!("matrix {xx} {xy} {yy}"),
         Shape::Round(variance) => format!("round {variance}"),
         Shape::Oval {
-            long,
-            short,
+            long_variance,
+            short_variance,
             direction: Direction { cosine, sine },
-        } => format!("oval {long} {short} {cosine} {sine}"),
+        } => format!("oval {long_variance} {short_variance} {cosine} {sine}"),
     }
 }
 
 /// A direction as an option's value: degrees, or a cosine and a sine.
 pub fn direction(text: &str) -> Result<Direction, String> {
     match text.split_once(',') {
-        None => Ok(of_degrees(float(text)?)),
+        None => Ok(Direction::from_degrees(float(text)?)),
         Some((cosine, sine)) => Ok(Direction {
             cosine: float(cosine)?,
             sine: float(sine)?,
@@ -282,46 +289,9 @@ pub fn direction(text: &str) -> Result<Direction, String> {
     }
 }
 
-/// The direction of an angle. Quarter turns are exact, since only on the axes is a directional difference exact.
-pub fn of_degrees(degrees: f64) -> Direction {
-    let turned = degrees % 360.0;
-    let (cosine, sine) = match turned {
-        0.0 => (1.0, 0.0),
-        90.0 | -270.0 => (0.0, 1.0),
-        180.0 | -180.0 => (-1.0, 0.0),
-        270.0 | -90.0 => (0.0, -1.0),
-        _ => (turned.to_radians().cos(), turned.to_radians().sin()),
-    };
-    Direction { cosine, sine }
-}
-
 #[cfg(test)]
 mod tests {
     use super::*;
-
-    #[test]
-    fn quarter_turns_are_exact() {
-        let axes = [(1.0, 0.0), (0.0, 1.0), (-1.0, 0.0), (0.0, -1.0)];
-        for turn in -400i32..=400 {
-            let (cosine, sine) = axes[turn.rem_euclid(4) as usize];
-            let found = of_degrees(90.0 * f64::from(turn));
-            assert_eq!(found, Direction { cosine, sine }, "{turn}");
-        }
-        // A tiny turn is no quarter turn.
-        assert!(of_degrees(-1e-300).sine < 0.0);
-        assert!(of_degrees(1e-3).sine > 0.0);
-        assert!(of_degrees(f64::NAN).cosine.is_nan());
-        assert!(of_degrees(f64::INFINITY).cosine.is_nan());
-    }
-
-    #[test]
-    fn other_angles_lie_on_the_circle() {
-        let found = of_degrees(60.0);
-        assert!((found.cosine - 0.5).abs() < 1e-15);
-        assert!((found.sine - 0.75f64.sqrt()).abs() < 1e-15);
-        let back = of_degrees(-300.0);
-        assert!((found.sine - back.sine).abs() < 1e-15);
-    }
 
     #[test]
     fn words_read_back() {

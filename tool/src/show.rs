@@ -1,8 +1,8 @@
-//! `show`: a picture, or two side by side, as characters on a terminal or as a PNG picture for the eye.
+//! `show`: a picture, or two side by side, as characters on a terminal or as a PNG picture for the eye; or one as numbers.
 
 use crate::error::{Failure, Outcome};
 use crate::files;
-use crate::numbers::whole;
+use crate::numbers::{rows, whole};
 use crate::pictures::Picture;
 use std::ffi::OsString;
 use terminal_size::{terminal_size, Width};
@@ -19,12 +19,16 @@ twice as high as wide. Two pictures stand side by side on one scale.
 
 With --png the view goes to a file instead, as 8-bit greyscale: the smallest
 pixel is 0 and the largest 255. It is enlarged by the largest whole factor with
-which it has at most 512 pixels a side; between two pictures stands a grey gap.",
+which it has at most 512 pixels a side; between two pictures stands a grey gap.
+
+With --numbers the pixels of one picture are printed as numbers, a row a line with
+tabs between, as the program bench prints them; there is no line with a scale.",
     after_help = "\
 Examples:
   $ vokhsaot show spot.pgm smooth.pgm
   $ vokhsaot show horizon.pgm --columns 40
-  $ vokhsaot show horizon.pgm --png view.png"
+  $ vokhsaot show horizon.pgm --png view.png
+  $ vokhsaot show --numbers smooth.pgm"
 )]
 pub struct Options {
     /// The most columns, 10 to 1000; without it those of the terminal, or 80
@@ -33,6 +37,9 @@ pub struct Options {
     /// Write the view as a PNG picture instead
     #[arg(long, value_name = "FILE", conflicts_with = "columns")]
     png: Option<OsString>,
+    /// Print the pixels of one picture as numbers instead
+    #[arg(long, conflicts_with_all = ["columns", "png", "other"])]
+    numbers: bool,
     /// The picture; - is standard input
     #[arg(default_value = "-")]
     picture: OsString,
@@ -48,6 +55,12 @@ fn columns(text: &str) -> Result<usize, String> {
 
 pub fn command(options: &Options) -> Result<Outcome, Failure> {
     let pictures = options.pictures()?;
+    if options.numbers {
+        for picture in &pictures {
+            files::print(rows(&picture.pixels, picture.width).as_bytes())?;
+        }
+        return Ok(Outcome::Good);
+    }
     match &options.png {
         Some(name) => {
             let view = view(&pictures).png().map_err(Failure::Input)?;

@@ -269,11 +269,13 @@ mod tests {
         }
 
         fn free(&self) -> Result<u32, Error> {
-            let words = self.0.words();
-            let widths = words[..64].chunks(8).map(|seat| seat[6]);
-            let wrong = widths.filter(|width| *width == self.1).count();
+            let jobs = self.0.jobs();
+            let wrong = jobs
+                .iter()
+                .filter(|job| u64::from(job.width) == self.1)
+                .count();
             self.0
-                .free()
+                .free_count()
                 .map(|count| count.saturating_sub(wrong as u32))
         }
     }
@@ -319,11 +321,9 @@ mod tests {
         }
 
         fn withdraw(&mut self, number: u64) -> Result<u64, Error> {
-            let mut seats = self.0.words()[..64].chunks(8);
-            let served = seats.any(|seat| seat[0] == number && seat[4] != seat[5]);
-            match served {
-                true => Err(Error::NoSuchJob),
-                false => self.0.withdraw(number),
+            match self.0.job(number) {
+                Some(job) if job.steps_left < job.steps => Err(Error::NoSuchJob),
+                _ => self.0.withdraw(number),
             }
         }
     }

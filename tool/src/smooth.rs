@@ -48,7 +48,7 @@ pub fn command(options: &Options) -> Result<Outcome, Failure> {
     work.run(width, height, &mut first, &mut second)
         .map_err(|refusal| explained(refusal, work))?;
     // An average is at most the largest pixel, so the maxval still holds.
-    let after = shown(steps, &first, &second).to_vec();
+    let after = shown(steps, &first, &second)?.to_vec();
     let before = std::mem::replace(&mut picture.pixels, after);
     files::write_picture(&options.output, &picture)?;
     if options.quiet {
@@ -63,7 +63,7 @@ pub fn command(options: &Options) -> Result<Outcome, Failure> {
         width: width as usize,
         maxval: picture.maxval,
         before: &before,
-        next_to_last: shown(steps - 1, &first, &second),
+        next_to_last: shown(steps, &second, &first)?,
         after: &picture.pixels,
     };
     for warning in seen.warnings() {

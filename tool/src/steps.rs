@@ -107,9 +107,9 @@ fn readings(work: Work, place: Place, picture: Picture) -> Result<Vec<Reading>, 
         source: Source::of(work)?,
     };
     let mut readings = stepper.readings(start, place)?;
-    // Of the run the last two steps are left, each in the picture of its parity.
-    for step in steps - 1..=steps {
-        let run = shown(step, first, &second);
+    // Of the run the last two steps are left: the last one is shown, the one before it stands in the other picture.
+    let (before, last) = (shown(steps, &second, first)?, shown(steps, first, &second)?);
+    for (step, run) in [(steps - 1, before), (steps, last)] {
         readings[step as usize].run = Some(run[y * width as usize + x]);
     }
     Ok(readings)

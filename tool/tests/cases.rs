@@ -1,4 +1,4 @@
-//! Document 01's worked cases and those of document 02's S-2 by `kernel` and `smooth`, and other pictures against the
+//! The worked cases of docs/REFERENCE.md (T0 to T10, S2.5, S2.6) by `kernel` and `smooth`, and other pictures against the
 //! independent program.
 
 mod common;

@@ -1,5 +1,5 @@
-//! Every example of docs/TOOL.md and docs/COURSE.md is run. Every example of a help text stands in the first; what the
-//! second cites and shows is there.
+//! What docs/TOOL.md and docs/COURSE.md say beside their blocks of commands, which tests/pages.py runs: every example of a help text
+//! stands in the first; what the second cites and shows is there.
 
 mod common;
 
@@ -10,109 +10,41 @@ use std::path::{Path, PathBuf};
 use std::process::Command;
 
 const REPOSITORY: &str = concat!(env!("CARGO_MANIFEST_DIR"), "/..");
-const REFERENCE: &str = include_str!("../../docs/TOOL.md");
+const TOOL_PAGE: &str = include_str!("../../docs/TOOL.md");
 const COURSE: &str = include_str!("../../docs/COURSE.md");
+const REFERENCE: &str = include_str!("../../docs/REFERENCE.md");
 
 /// The parts of a lesson, in order.
 const PARTS: [&str; 5] = [
     "\n**Newcomers believe** ",
     "\n**Run.** ",
-    "\n```\n$ ",
+    "\n```sh\n",
     "\n**Why.** ",
     "\n**Settled by** ",
 ];
 const MOST_PICTURE_BYTES: usize = 60_000;
 const MOST_BYTES_OF_ALL: usize = 300_000;
 
-/// A command line with what it prints, errors included.
-struct Example {
-    command: String,
-    /// What is typed after the first line, for `<<`.
-    typed: String,
-    printed: String,
-}
-
-/// The examples of the fenced blocks: `$ command`, lines typed on with `> `, and the output.
-fn examples(text: &str) -> Vec<Example> {
-    let mut found: Vec<Example> = Vec::new();
-    for block in text.split("```\n").skip(1).step_by(2) {
-        assert!(block.starts_with("$ "), "{block}");
-        for line in block.lines() {
-            if let Some(command) = line.strip_prefix("$ ") {
-                found.push(Example {
-                    command: command.to_owned(),
-                    typed: String::new(),
-                    printed: String::new(),
-                });
-                continue;
-            }
-            let example = found.last_mut().unwrap();
-            match line.strip_prefix("> ") {
-                Some(typed) => example.typed += &format!("{typed}\n"),
-                None => example.printed += &format!("{line}\n"),
-            }
+/// A page's lines, each with the language of the fenced block that it stands in; none outside of blocks.
+fn lines(page: &str) -> Vec<(Option<&str>, &str)> {
+    let mut found = Vec::new();
+    let mut language = None;
+    for line in page.lines() {
+        match (line.strip_prefix("```"), language) {
+            (Some(named), None) => language = Some(named),
+            (Some(_), Some(_)) => language = None,
+            (None, _) => found.push((language, line)),
         }
     }
     found
 }
 
-impl Example {
-    fn uses(&self, program: &str) -> bool {
-        let parts = |letter: char| letter.is_whitespace() || "|;&()".contains(letter);
-        self.command.split(parts).any(|word| word == program)
-    }
-}
-
-/// The folder of `bench`: the one that BENCH_DIR names, else target/bin of the repository.
-fn bench_folder() -> PathBuf {
-    let folder = match std::env::var_os("BENCH_DIR") {
-        Some(folder) => PathBuf::from(folder),
-        None => Path::new(REPOSITORY).join("target/bin"),
-    };
-    assert!(folder.is_absolute(), "BENCH_DIR is no absolute path");
-    folder
-}
-
-/// PATH with the folders of the tool and of `bench` before all others.
+/// PATH with the tool's folder before all others.
 fn path() -> OsString {
     let tools = Path::new(TOOL).parent().unwrap().to_owned();
     let others = std::env::var_os("PATH").unwrap_or_default();
-    let first = [tools, bench_folder()].into_iter();
-    std::env::join_paths(first.chain(std::env::split_paths(&others))).unwrap()
-}
-
-/// Runs the examples of a text in order and in one folder, and compares what they print.
-fn assert_printed(name: &str, text: &str) {
-    let folder = Folder::new(name);
-    let bench = bench_folder().join("bench");
-    let examples = examples(text);
-    assert!(examples.len() > 20);
-    for example in examples {
-        assert!(
-            bench.is_file() || !example.uses("bench"),
-            "there is no {}: `rt check bench` builds target/bin/bench, BENCH_DIR names another folder",
-            bench.display()
-        );
-        let script = format!("exec 2>&1\n{}\n{}", example.command, example.typed);
-        let output = Command::new("sh")
-            .args(["-c", &script])
-            .env("PATH", path())
-            .current_dir(folder.path())
-            .output()
-            .unwrap();
-        let printed = String::from_utf8(output.stdout).unwrap();
-        assert_eq!(printed, example.printed, "$ {}", example.command);
-    }
-}
-
-#[test]
-fn reference_prints_what_it_shows() {
-    assert_printed("docs", REFERENCE);
-}
-
-#[test]
-fn course_prints_what_it_shows() {
-    assert_printed("course", COURSE);
+    let folders = std::iter::once(tools).chain(std::env::split_paths(&others));
+    std::env::join_paths(folders).unwrap()
 }
 
 /// The lessons of the course, each from its heading on.
@@ -206,8 +138,8 @@ fn course_cites_what_is_there() {
 fn pictures_of_the_course() {
     let folder = Folder::new("pictures");
     let shown = Path::new(REPOSITORY).join("docs/pictures");
-    let made = Command::new("bash")
-        .arg(shown.join("make.sh"))
+    let made = Command::new("python3")
+        .arg(shown.join("make.py"))
         .arg(folder.path())
         .env("PATH", path())
         .output()
@@ -217,6 +149,11 @@ fn pictures_of_the_course() {
     let mut linked: Vec<&str> = links.map(|link| link.split_once(')').unwrap().0).collect();
     linked.sort();
     assert_eq!(folder.names(), linked);
+    let kept = fs::read_dir(&shown)
+        .unwrap()
+        .map(|entry| entry.unwrap().path());
+    let kept = kept.filter(|path| path.extension().is_some_and(|ending| ending == "png"));
+    assert_eq!(kept.count(), linked.len(), "a picture that is not shown");
     let mut all = 0;
     for name in linked {
         let picture = fs::read(shown.join(name)).unwrap();
@@ -231,10 +168,9 @@ fn pictures_of_the_course() {
 #[test]
 fn help_texts() {
     let folder = Folder::new("help");
-    let shown: Vec<String> = examples(REFERENCE)
-        .into_iter()
-        .map(|example| example.command)
-        .collect();
+    let commands = lines(TOOL_PAGE).into_iter();
+    let commands = commands.filter(|(language, _)| *language == Some("sh"));
+    let shown: Vec<&str> = commands.map(|(_, line)| line).collect();
     let general = folder.run("--help", b"").text();
     let (_, commands) = general.split_once("Commands:\n").unwrap();
     let (commands, _) = commands.split_once("\n\n").unwrap();
@@ -246,13 +182,13 @@ fn help_texts() {
         assert_eq!(help, folder.run(&format!("{command} -h"), b"").text());
         helps.push(help);
     }
-    assert_eq!(helps.len(), 15);
+    assert_eq!(helps.len(), 17);
     for help in helps {
         let (_, examples) = help.split_once("Examples:\n").expect("examples");
         assert!(!examples.is_empty());
         for line in examples.lines() {
             let command = line.strip_prefix("  $ ").expect(line);
-            let is_shown = |other: &String| other.trim_end_matches("; echo $?") == command;
+            let is_shown = |other: &&str| other.trim_end_matches("; echo $?") == command;
             assert!(shown.iter().any(is_shown), "{command}");
         }
         assert!(
@@ -262,48 +198,94 @@ fn help_texts() {
     }
 }
 
-/// The words of a text that is not code: neither in a fenced block nor between backquotes.
-fn prose(text: &str) -> Vec<String> {
-    let mut words = Vec::new();
-    for block in text.split("```\n").step_by(2) {
-        for part in block.split('`').step_by(2) {
-            let part = part.split(|letter: char| !letter.is_alphanumeric());
-            words.extend(part.map(str::to_lowercase));
-        }
-    }
-    words
+/// The text of a page that is not code: neither in a fenced block nor between backquotes.
+fn prose(page: &str) -> String {
+    let lines = lines(page).into_iter();
+    let lines = lines.filter(|(language, _)| language.is_none());
+    let text: Vec<&str> = lines.map(|(_, line)| line).collect();
+    let text = text.join("\n");
+    text.split('`').step_by(2).collect()
 }
 
-/// Document 01's word is seat; the code's, which users do not read, is slot. The course says so once.
+fn words(text: &str) -> Vec<String> {
+    let words = text.split(|letter: char| !letter.is_alphanumeric());
+    words.map(str::to_lowercase).collect()
+}
+
+/// The ids in a pair of brackets that hold nothing else: `(K3, K4)`, `(S1.1)`.
+fn ids(page: &str) -> Vec<String> {
+    let text = prose(page);
+    let mut found = Vec::new();
+    for part in text.split('(').skip(1) {
+        let held = part.split(')').next().unwrap();
+        let ids: Vec<&str> = held.split(", ").filter(|word| is_id(word)).collect();
+        found.extend(ids.into_iter().map(str::to_owned));
+    }
+    found
+}
+
+/// A capital and a number, or for a change request two with a dot between.
+fn is_id(word: &str) -> bool {
+    let Some(numbers) = word.strip_prefix(|letter: char| letter.is_ascii_uppercase()) else {
+        return false;
+    };
+    let is_number = |part: &str| !part.is_empty() && part.bytes().all(|byte| byte.is_ascii_digit());
+    numbers.split('.').count() <= 2 && numbers.split('.').all(is_number)
+}
+
+/// Where a lesson states a promise it names its id, and every id that is named has a sentence.
+#[test]
+fn ids_stand_in_the_reference() {
+    assert_eq!(
+        ids("text (V15) `(V16)` (refusal 9) (equation 85, S2.1) (L1 and more)\n```text\n(V17)\n```\n"),
+        ["V15", "S2.1"]
+    );
+    for lesson in lessons().into_iter().take(10) {
+        let named = ids(lesson);
+        assert!(!named.is_empty(), "{lesson}");
+        for id in named {
+            let sentence = format!("\n- **{id}.** ");
+            assert!(
+                REFERENCE.contains(&sentence),
+                "docs/REFERENCE.md has no {id}"
+            );
+        }
+    }
+}
+
+/// The word of docs/REFERENCE.md is seat; the code's, which users do not read, is slot. The course says so once.
 #[test]
 fn one_word_for_a_seat() {
+    let is_slot = |word: &String| word == "slot" || word == "slots";
     let slots = |text: &str| {
-        let words = prose(text).into_iter();
-        words
-            .filter(|word| word == "slot" || word == "slots")
+        words(&prose(text))
+            .iter()
+            .filter(|word| is_slot(word))
             .count()
     };
     assert_eq!(
-        (slots("a `slot` of Slots"), slots("seat\n```\nslot\n```\n")),
+        (
+            slots("a `slot` of Slots"),
+            slots("seat\n```text\nslot\n```\n")
+        ),
         (1, 0)
     );
     assert_eq!(slots(COURSE), 1);
     let folder = Folder::new("seats");
     let manual = folder.run("manual", b"").text();
-    let header = include_str!("../../rust/include/vokhsaot.h");
+    let header = include_str!("../../c/include/vokhsaot.h");
     let library = ["lib.rs", "service.rs", "error.rs"].map(|name| {
         let path = Path::new(REPOSITORY).join("rust/src").join(name);
         fs::read_to_string(path).unwrap()
     });
     let mut seats = 0;
-    for text in [REFERENCE, &manual, header]
+    for text in [TOOL_PAGE, &manual, header]
         .into_iter()
         .chain(library.iter().map(String::as_str))
     {
         // Of these everything is read, code included.
-        let words = text.split(|letter: char| !letter.is_alphanumeric());
-        let words: Vec<String> = words.map(str::to_lowercase).collect();
-        assert!(!words.iter().any(|word| word == "slot" || word == "slots"));
+        let words = words(text);
+        assert!(!words.iter().any(is_slot));
         seats += words.iter().filter(|word| word.starts_with("seat")).count();
     }
     assert!(seats > 10);

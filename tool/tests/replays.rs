@@ -96,7 +96,7 @@ fn a_full_service() {
     }
     expected += "call 30, line 16: collect 9: job 9 [2 free]\n\
         job 9: equals its lone run; 0.000 from the exact run (at most 0.5); finished by tick 8 (at most 8)\n\
-        call 31, line 17: collect 3 length 1: refused (9): A lent picture's length is not w × h. [2 free]\n\
+        call 31, line 17: collect 3 length 1: refused (9): A lent picture's length is not w × h, or another lent slice has a wrong length. [2 free]\n\
         call 32, line 18: collect 3: job 3 [4 free]\n\
         job 3: equals its lone run; 0.375 from the exact run (at most 1.0); finished by tick 11 (at most 16)\n\
         call 33, line 19: tick: idle [4 free]\n\
@@ -119,7 +119,7 @@ fn refused_submits() {
         ("oval 1 1 inf steps 0 size 0 0 pixels", "(4): A cosine or sine is not a number or lies outside −1 to 1, or (c·c) + (s·s) lies outside 1023/1024 to 1025/1024."),
         ("matrix -1 0 0 steps 65 size 0 0 pixels", "(5): Steps are not 1 to 64."),
         ("matrix -1 0 0 steps 1 size 4294967295 4294967295 seed 1", "(6): A width or height is not 1 to 1024."),
-        ("matrix -1 0 0 steps 1 size 64 17 pixels 1", "(9): A lent picture's length is not w × h."),
+        ("matrix -1 0 0 steps 1 size 64 17 pixels 1", "(9): A lent picture's length is not w × h, or another lent slice has a wrong length."),
         ("matrix -1 0 0 steps 1 size 64 17 seed 1", "(10): A submitted picture has more than 1024 pixels."),
         ("matrix -1 0 0 steps 1 size 1024 1024 seed 1", "(10): A submitted picture has more than 1024 pixels."),
         ("matrix -1 0 0 steps 1 size 64 16 seed 1", "(11): No kernel exists."),

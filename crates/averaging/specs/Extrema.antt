@@ -1,4 +1,4 @@
--- Document 02, S-1, "A bright spot must never get brighter": what is claimed of the steps of one kernel. The paper calls its first
+-- docs/REFERENCE.md, "Bright spots": what is claimed of the steps of one kernel. The paper calls its first
 -- sentence the non-enhancement of local extrema (definition A.4). Definitions only; `proofs/Extrema` shows it of every kernel that is
 -- sound.
 use mathlib.Core.Path.{_≡_}

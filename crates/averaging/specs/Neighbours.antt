@@ -1,5 +1,5 @@
--- Document 02, S-1: a pixel's neighbours, and when it is "at least as large" as they are, or "at most as large". They are the "up to
--- eight neighbours inside the picture" of S-9. Definitions only.
+-- docs/REFERENCE.md, "Bright spots": a pixel's neighbours, and when it is "at least as large" as they are, or "at most as large".
+-- They are the "up to eight neighbours inside the picture" of S-9. Definitions only.
 use mathlib.Core.Bool.{Bool, true, false, cond, _&&_}
 use mathlib.Core.List.{List, [], _∷_, foldr}
 use Prim.Native.Nat.{ℕ}

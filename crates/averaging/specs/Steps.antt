@@ -1,4 +1,4 @@
--- Document 01, "Smoothing and differences": one step, k steps, and the exact run. Definitions only.
+-- docs/REFERENCE.md, "Smoothing and differences": one step, k steps, and the exact run. Definitions only.
 use mathlib.Core.List.{List}
 use Prim.Native.Nat.{ℕ, zero, suc, _+_, _/_}
 use lib.IntN.{pos, _+ℤ_}

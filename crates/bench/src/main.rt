@@ -1,4 +1,4 @@
-// The bench program (document 01): reads one job text from standard input and writes its answer to standard output, and nothing
+// The bench program (REFERENCE): reads one job text from standard input and writes its answer to standard output, and nothing
 // else. The work is done in job_text; here are the two buffers and the calls that read and write. A text that cannot be read to
 // its end is no job. A program has no exit status in Rattle, so a write that fails goes unnoticed.
 ghost use mathlib.Core.Path.{_≡_};

@@ -1,4 +1,4 @@
-// The buffer pool in code (document 01: the store): copies into it and out of it, and a step from one of its places to
+// The buffer pool in code (REFERENCE: the store): copies into it and out of it, and a step from one of its places to
 // another. An inner crate: its functions ask of their callers that the places lie inside.
 ghost use mathlib.Core.Path.{_≡_};
 ghost use Prim.Native.Nat.{_+_, _*_, _≤_};

@@ -1,9 +1,10 @@
-// A run between two pictures, exported. What each call writes and refuses is said in picture_calls. The choice of the free number
-// is a number: 1 names smallest, and every other the binomial one.
+// A run between two pictures, and which of them is shown after it, exported. What each call writes and refuses is said in
+// picture_calls. The choice of the free number is a number: 1 names smallest, and every other the binomial one.
 ghost use mathlib.Core.Path.{_≡_};
 ghost use Rattle.limits.specs.Errors.{outcomeNumber};
 ghost use Rattle.kernel.specs.Choice.{choiceOf};
 ghost use Rattle.smoothing.specs.Runs.{runOf};
+ghost use Rattle.picture_calls.specs.Pictures.{shownCode, shownPictureAfter};
 use covariance::Direction;
 use covariance::Shape;
 
@@ -67,4 +68,13 @@ pub extern "C" fn vokhsaot_run_oval_by(
 {
     let oval = Shape::Oval(long, short, Direction { cosine, sine });
     picture_calls::run(choice, oval, steps, width, height, first, second)
+}
+
+// Which of its two pictures a run of so many steps ends in: writes 0 for the first, 1 for the second. Refusal 5.
+#[no_mangle]
+pub extern "C" fn vokhsaot_shown(steps: u32, picture: &mut u32) -> u32
+    ensures { λ r. ⌜ r ≡ shownCode steps ⌝ }
+    ensures { λ _. ⌜ now (picture .exit) ≡ shownPictureAfter steps (now (picture .entry)) ⌝ }
+{
+    picture_calls::shown(steps, picture)
 }

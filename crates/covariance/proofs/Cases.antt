@@ -131,7 +131,7 @@ lowest = ofBits binary64 0x3fef_fbff_bff7_fec0
 abbrev pub too-low : Float
 too-low = ofBits binary64 0x3fef_fbff_bff7_febf
 
--- ---- a shape, and what it gives: the covariance or the refusal, document 01's number of it (0: accepted), and its values
+-- ---- a shape, and what it gives: the covariance or the refusal, REFERENCE's number of it (0: accepted), and its values
 abbrev pub Given : Type 0
 Given = Shape × Covariance × ℕ × List ℤ
 

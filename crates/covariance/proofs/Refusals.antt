@@ -1,5 +1,6 @@
 -- Refusal 11 of a shape, in the wide definition of a kernel: it is answered exactly where no nine weights at all have the shape's
--- second moments, by each choice; and the smallest choice answers what document 01's kernel call did. Assumes nothing.
+-- second moments, by each choice; and the smallest choice answers what the kernel call did before there was a choice. Assumes
+-- nothing.
 use mathlib.Core.Path.{_≡_, refl}
 use mathlib.Core.Bool.{true, false}
 use mathlib.Core.Logic.{_↔_}
@@ -32,7 +33,7 @@ pub kernel-refused-exactly : (choice : Choice) (shape : Shape) (k : ℕ) → var
     → (shapeKernelAnswer choice shape k .outcome ≡ Refused NoKernel) ↔ (WeightsOf shape k → ⊥)
 kernel-refused-exactly choice shape k v d s = rw (v, d) (refused-exactly choice (covarianceXX shape) (covarianceXY shape) (covarianceYY shape) k s)
 
--- the smallest choice is document 01's kernel of a shape
+-- the smallest choice gives the kernel of a shape from before there was a choice
 pub kernel-as-before : (shape : Shape) (k : ℕ)
     → shapeKernelAnswer Smallest shape k ≡ answerWith (firstRefusal (shapeKernelChecks shape k)) (kernelOfShape shape k)
 kernel-as-before shape k = refl

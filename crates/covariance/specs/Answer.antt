@@ -13,7 +13,7 @@ use Rattle.covariance.specs.declared.Shape.{Shape}
 use Rattle.covariance.specs.declared.Covariance.{Covariance}
 use Rattle.covariance.specs.Shapes.{variancesFine, directionFine, covarianceXX, covarianceXY, covarianceYY, shapeHasKernel, kernelOfShapeBy}
 
--- each answer's number in document 01, 0 where the shape is accepted, and the values that it carries
+-- each answer's number in REFERENCE, 0 where the shape is accepted, and the values that it carries
 abbrev pub covarianceNumber : Covariance → ℕ
 covarianceNumber (Covariance.Entries xx xy yy) = 0
 covarianceNumber (Covariance.Refused code) = numberOf code

@@ -1,4 +1,4 @@
--- Document 01, "Pictures and shapes": which shapes are accepted, and the covariance of each in 1/4096 square pixel.
+-- docs/REFERENCE.md, "Pictures and shapes": which shapes are accepted, and the covariance of each in 1/4096 square pixel.
 -- Definitions only.
 use mathlib.Core.Bool.{Bool, true, false, _&&_}
 use Prim.Native.Nat.{ℕ}
@@ -78,6 +78,6 @@ shapeHasKernel shape k = kernelExists (covarianceXX shape) (covarianceXY shape) 
 abbrev pub kernelOfShape : Shape → ℕ → Kernel
 kernelOfShape shape k = kernelOf (covarianceXX shape) (covarianceXY shape) (covarianceYY shape) k
 
--- document 02, S-2: and the kernel by a choice; the one above is that of "smallest"
+-- REFERENCE, "The choice of f": and the kernel by a choice; the one above is that of "smallest"
 abbrev pub kernelOfShapeBy : Choice → Shape → ℕ → Kernel
 kernelOfShapeBy choice shape k = kernelBy choice (covarianceXX shape) (covarianceXY shape) (covarianceYY shape) k

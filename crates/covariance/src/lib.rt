@@ -15,13 +15,13 @@ use kernel::Choice;
 use kernel::KernelAnswer;
 use limits::ErrorCode;
 
-// Document 01's direction: a cosine c and a sine s.
+// REFERENCE's direction: a cosine c and a sine s.
 pub struct Direction {
     pub cosine: f64,
     pub sine: f64,
 }
 
-// Document 01's shape: Matrix (xx, xy, yy in 1/4096 square pixel), Round (variance in square pixels) or Oval (long and short
+// REFERENCE's shape: Matrix (xx, xy, yy in 1/4096 square pixel), Round (variance in square pixels) or Oval (long and short
 // variance, direction).
 pub enum Shape {
     Matrix(i32, i32, i32),

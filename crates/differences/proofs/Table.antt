@@ -1,5 +1,5 @@
 -- Worked cases: the five undivided differences at every place of a picture without symmetry, the directional one in directions
--- that are no axis and along each axis, and refused calls. The numbers are worked out by hand from document 01's formulas, as
+-- that are no axis and along each axis, and refused calls. The numbers are worked out by hand from REFERENCE's formulas, as
 -- the comments tell. Definitions for `Cases`.
 use mathlib.Core.Bool.{true, false}
 use mathlib.Core.List.{List, [], _∷_, map}

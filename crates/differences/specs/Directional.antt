@@ -1,4 +1,4 @@
--- Document 01's directional difference, and the exact value of a float that is a whole number. Definitions only.
+-- REFERENCE's directional difference, and the exact value of a float that is a whole number. Definitions only.
 use mathlib.Core.Path.{_≡_}
 use mathlib.Core.List.{List}
 use Prim.Native.Nat.{ℕ}

@@ -1,4 +1,4 @@
--- Document 01, "Smoothing and differences": the undivided differences (document 000, equations 20 and 21), each by a stencil:
+-- docs/REFERENCE.md, "Smoothing and differences": the undivided differences (the paper's equations 20 and 21), each by a stencil:
 -- a list of signed coefficients at signed offsets. Definitions only.
 use mathlib.Core.List.{List, [], _∷_}
 use Prim.Native.Nat.{ℕ}

@@ -15,7 +15,7 @@ use covariance::Direction;
 use limits::ErrorCode;
 use limits::Outcome;
 
-// Document 01's undivided differences: the first ones are twice the derivative, the second ones the second derivative, and the
+// REFERENCE's undivided differences: the first ones are twice the derivative, the second ones the second derivative, and the
 // mixed one is four times the mixed derivative.
 pub enum Difference {
     FirstX,

@@ -9,7 +9,7 @@ use Rattle.image.specs.declared.Reading as R
 use Rattle.image.specs.declared.Reading.the-variants.{Pixel, Refused}
 use Rattle.image.specs.Reading.{readingOf, readingNumber, readingValues}
 
--- w, h, the pixels, a column and a row; then the answer, document 01's number of it (0 where a pixel was read) and its values
+-- w, h, the pixels, a column and a row; then the answer, REFERENCE's number of it (0 where a pixel was read) and its values
 pub record Case : Type 0 where
   pub width : ℕ
   pub height : ℕ

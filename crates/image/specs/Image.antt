@@ -1,4 +1,4 @@
--- An image (document 01: a picture) is its list of entries, rows in order, with a width w and a height h. Definitions only.
+-- An image (REFERENCE: a picture) is its list of entries, rows in order, with a width w and a height h. Definitions only.
 use mathlib.Core.List.{List, [], _∷_, _++_}
 use Prim.Native.Nat.{ℕ, zero, suc, _+_, _-_, _*_, min}
 use lib.ListN.{getD}

@@ -12,7 +12,7 @@ use Rattle.image.specs.declared.Reading as R
 use Rattle.image.specs.declared.Reading.the-variants.{Pixel, Refused}
 use Rattle.image.specs.Image.{pixelAt}
 
--- document 01's number of each answer, 0 for a pixel, and the value that it carries
+-- REFERENCE's number of each answer, 0 for a pixel, and the value that it carries
 abbrev pub readingNumber : R.Reading → ℕ
 readingNumber (Pixel p) = 0
 readingNumber (Refused code) = numberOf code

@@ -1,4 +1,4 @@
-// Pixels of an image (document 01: a picture) that is lent as a slice with a width and a height. The covered core of reading
+// Pixels of an image (REFERENCE: a picture) that is lent as a slice with a width and a height. The covered core of reading
 // stands here, with plain parameters; only `view` calls it, and the reading that users reach is `view`'s.
 ghost use mathlib.Core.Path.{_≡_};
 ghost use Prim.Native.Nat.{_≤_, _<_};

@@ -17,7 +17,7 @@ use Rattle.job_parser.specs.Reading.{Reading, found, nothing, readByte, 
 use Rattle.job_parser.specs.Parsing.{readEntries, readSizes, readHeader, readJob, parse}
 use Rattle.job_parser.specs.Pictures.{mostPixels}
 
--- ---- the limits, as document 01's numbers: "at most 16,384 bytes", unsigned and signed 32-bit, and the pixels for which such a
+-- ---- the limits, as REFERENCE's numbers: "at most 16,384 bytes", unsigned and signed 32-bit, and the pixels for which such a
 -- text has room: (16,384 − 2) / 2, each with one digit and a separator
 pub limits : longestText ∷ mostUnsigned ∷ mostPositive ∷ mostNegative ∷ mostPixels ∷ [] ≡ 16384 ∷ 4294967295 ∷ 2147483647 ∷ 2147483648 ∷ 8191 ∷ []
 limits = refl

@@ -1,4 +1,4 @@
--- Document 01, "Bench program": a job, and the text that it is written as. Definitions only.
+-- docs/REFERENCE.md, "Bench program": a job, and the text that it is written as. Definitions only.
 use mathlib.Core.Path.{_≡_}
 use mathlib.Core.List.{List, [], _∷_, _++_}
 use Prim.Native.Nat.{ℕ, suc, _*_, _≤_}

@@ -19,7 +19,7 @@ use cursor::Field;
 use cursor::Place;
 use cursor::SignedField;
 
-// Document 01: "at most 16,384 bytes".
+// REFERENCE: "at most 16,384 bytes".
 pub const LONGEST_TEXT: usize = 16384;
 
 // As many pixels as such a text can hold: each takes at least a digit and a separator, and line one comes first.

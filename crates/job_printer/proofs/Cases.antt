@@ -1,4 +1,4 @@
--- Worked cases: the bytes of document 01's letters, separators and numbers, and of the lines that are printed. Each table has one
+-- Worked cases: the bytes of REFERENCE's letters, separators and numbers, and of the lines that are printed. Each table has one
 -- computed proof. Assumes nothing.
 use mathlib.Core.Path.{_≡_, refl}
 use mathlib.Core.List.{List, [], _∷_, map}

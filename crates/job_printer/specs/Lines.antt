@@ -1,4 +1,4 @@
--- Document 01, "Bench program": the lines that are printed for a refusal, a kernel and a picture. Definitions only.
+-- docs/REFERENCE.md, "Bench program": the lines that are printed for a refusal, a kernel and a picture. Definitions only.
 use mathlib.Core.List.{List, [], _∷_, _++_, map}
 use Prim.Native.Nat.{ℕ}
 use Rattle.limits.specs.Errors.{numberOf}

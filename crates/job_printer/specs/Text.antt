@@ -1,4 +1,4 @@
--- A text by its bytes, for tables that are read beside document 01. Definitions only.
+-- A text by its bytes, for tables that are read beside REFERENCE. Definitions only.
 use Prim.Native.Nat.{ℕ}
 use Prim.Native.Char.{code}
 use Prim.Native.String.{String, [], _∷_}

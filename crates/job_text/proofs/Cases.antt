@@ -1,5 +1,5 @@
 -- Worked cases: the refusals of a text in checking order, pictures that are not square, from the text to the whole printed answer, and
--- what a call answers in document 01's numbers. Document 01's own pictures stand in `worked_cases`. Each table has one computed proof.
+-- what a call answers in REFERENCE's numbers. REFERENCE's own pictures stand in `worked_cases`. Each table has one computed proof.
 -- Assumes nothing.
 use mathlib.Core.Path.{_≡_, refl}
 use mathlib.Core.List.{List, [], _∷_, map}
@@ -20,7 +20,7 @@ use Rattle.job_text.specs.declared.Printed.{Printed}
 use Rattle.job_text.specs.declared.Printed.the-variants as printed
 use Rattle.job_text.specs.Answer.{printedNumber, printedValues, jobAnswer, answerText, mostBytes, Answered, answered}
 
--- ---- from row to row the first fault of the row before is mended; the last has no kernel, as case d of document 01
+-- ---- from row to row the first fault of the row before is mended; the last has no kernel, as case d of REFERENCE
 abbrev pub refusals : List (String × String)
 refusals =
     ("J\t4097\t0\t4096\t65\t0\t1025", "R\t1\n")

@@ -1,4 +1,4 @@
--- Document 01, "Bench program": what is printed for a text. Definitions only.
+-- docs/REFERENCE.md, "Bench program": what is printed for a text. Definitions only.
 use mathlib.Core.Bool.{cond}
 use mathlib.Core.List.{List, [], _∷_, _++_}
 use mathlib.Core.Option.{Option, some, none}
@@ -22,7 +22,7 @@ use Rattle.job_parser.specs.declared.Header.{Header}
 use Rattle.job_text.specs.declared.Printed.{Printed}
 use Rattle.job_text.specs.declared.Printed.the-variants as printed
 
--- document 01's number of each answer of the call, 0 where it printed, and how many bytes it printed
+-- REFERENCE's number of each answer of the call, 0 where it printed, and how many bytes it printed
 abbrev pub printedNumber : Printed → ℕ
 printedNumber (printed.Bytes n) = 0
 printedNumber (printed.Refused code) = numberOf code
@@ -39,7 +39,7 @@ jobChecks h =
     ∷ (kernelExists (h .xx) (h .xy) (h .yy) (unitsOf (h .steps)) otherwise NoKernel)
     ∷ []
 
--- document 02, S-2: "a caller of a direct run who names none, and the bench program, get the new one"
+-- REFERENCE, "The choice of f": "a caller of a direct run who names none, and the bench program, get the new one"
 abbrev pub jobKernel : Header → Kernel
 jobKernel h = kernelBy defaultChoice (h .xx) (h .xy) (h .yy) (h .steps)
 

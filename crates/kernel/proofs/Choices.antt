@@ -1,4 +1,4 @@
--- Worked examples of document 02's S-2: halves rounded up, the bound and the free number of each choice, and the numbers that name a
+-- Worked examples of S-2: halves rounded up, the bound and the free number of each choice, and the numbers that name a
 -- choice. Assumes nothing.
 use mathlib.Core.Path.{_≡_, refl}
 use mathlib.Core.List.{List, [], _∷_, map}
@@ -34,7 +34,7 @@ example xx xy yy m bound binomial smallest =
 
 abbrev pub examples : List Example
 examples =
-    -- document 02's case a: half of 2048 + 2048 + 2048 − 4096; and case e: "Case e has f 2049", half of 4097 + 4096 + 4097 − 8192
+    -- case a: half of 2048 + 2048 + 2048 − 4096; and case e: "Case e has f 2049", half of 4097 + 4096 + 4097 − 8192
     example (pos 2048) (pos 0) (pos 2048) 4096 (pos 1024) (pos 1024) (pos 0)
     ∷ example (pos 4097) (pos 0) (pos 4096) 8192 (pos 2049) (pos 2049) (pos 1)
     -- "rounded up": half of 2051 is 1026

@@ -1,5 +1,5 @@
 -- The theorems on kernels. For every free number between its two bounds the molecule's weights are not negative, sum to
--- 4 × M, have mean zero and exactly the requested second moments; the test of document 01 passes exactly where nine weights
+-- 4 × M, have mean zero and exactly the requested second moments; the test of REFERENCE passes exactly where nine weights
 -- exist in the wide sense, so refusal 11 is answered exactly where none do. Assumes nothing.
 use mathlib.Core.Path.{_≡_, refl, sym, ap, _∙_, subst}
 use mathlib.Core.Bool.{Bool, true, false, true≢false}
@@ -235,7 +235,7 @@ sound-by choice xx xy yy k s e =
     let r = in-range 1 mostSteps k s in
     lift (λ xx xy yy k kernel. Sound kernel k) k (λ a xy b n h. with-sound a xy b n k (r .0) (r .1) h) choice xx xy yy e
 
--- the service's kernel is one of them: document 01's, by the smallest free number
+-- the service's kernel is one of them, by the smallest free number
 pub sound : (xx xy yy : ℤ) (k : ℕ) → stepsInRange k ≡ true → kernelExists xx xy yy (unitsOf k) ≡ true → Sound (kernelOf xx xy yy k) k
 sound = sound-by Smallest
 
@@ -268,7 +268,7 @@ refused-exactly choice xx xy yy k s = (only, λ none. ap (λ a. a .outcome) (abs
     only : kernelAnswer choice xx xy yy k .outcome ≡ Refused NoKernel → Weights xx xy yy (unitsOf k) → ⊥
     only r w = refused-not-accepted (sym r ∙ ap (λ a. a .outcome) (present choice xx xy yy k s (needed xx xy yy (unitsOf k) w)))
 
--- "A caller who needs the earlier f names the choice "smallest"": the call then answers what it answered by document 01
+-- "A caller who needs the earlier f names the choice "smallest"": the call then answers what it answered before
 pub as-before : (xx xy yy : ℤ) (k : ℕ) → kernelAnswer Smallest xx xy yy k ≡ answerWith (kernelChecks xx xy yy k) (kernelOf xx xy yy k)
 as-before xx xy yy k = refl
 
@@ -303,7 +303,7 @@ determinantOf xx xy yy = xx *ℤ yy -ℤ xy *ℤ xy
 pub determinant : (pos 0 <ℤ determinantOf (pos 100) (pos 150) (pos 400)) × ((m : ℕ) → kernelExists (pos 100) (pos 150) (pos 400) m ≡ false)
 determinant = (ltZ-yes tt, λ m. exists-plain 100 (pos 150) 400 m ∙ lt-leb (max 150 (500 - m)) 100 (omega arith))
 
--- and 0 where there is one for every number of steps: the shape of document 01's case f
+-- and 0 where there is one for every number of steps: the shape of REFERENCE's case f
 pub determinant-zero : (determinantOf (pos 1000) (pos 1000) (pos 1000) ≡ pos 0)
     × ((k : ℕ) → 1 ≤ k → kernelExists (pos 1000) (pos 1000) (pos 1000) (unitsOf k) ≡ true)
 determinant-zero = (refl, λ k h. unsigned-conditions 1000 (pos 1000) 1000 (unitsOf k) .1 (omega arith, omega arith))

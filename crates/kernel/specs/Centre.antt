@@ -1,4 +1,4 @@
--- What document 02's S-2 is for: the paper's ratio of two between the centre and its four neighbours, which equation 82's kernel
+-- What S-2 is for: the paper's ratio of two between the centre and its four neighbours, which equation 82's kernel
 -- has not. Definitions only.
 use Prim.Native.Nat.{ℕ, _*_, _≤_}
 use lib.ListN.{getD}

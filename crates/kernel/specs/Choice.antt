@@ -1,5 +1,5 @@
--- Document 02, S-2: the choices of the free number f, and the kernel by a choice. `freeNumber` and `kernelOf` are document 01's,
--- which S-2 calls "smallest". Definitions only.
+-- docs/REFERENCE.md, "The choice of f": the choices of the free number f, and the kernel by a choice. `freeNumber` and `kernelOf`
+-- are those of K9, which S-2 calls "smallest". Definitions only.
 use Prim.Native.Nat.{ℕ, _+_, _/_}
 use mathlib.Core.Bool.{cond}
 use lib.Dec.{eqb}

@@ -1,4 +1,4 @@
--- When a kernel exists: the test of document 01, and the wide definition that it is held to. Definitions only.
+-- When a kernel exists: the test of REFERENCE, and the wide definition that it is held to. Definitions only.
 use mathlib.Core.Path.{_≡_}
 use mathlib.Core.Bool.{Bool}
 use mathlib.Core.List.{List}

@@ -1,4 +1,4 @@
--- Document 01, "Kernel": the weights from a covariance xx, xy, yy in 1/4096 square pixel, the free number f and M. Signed
+-- docs/REFERENCE.md, "Kernel": the weights from a covariance xx, xy, yy in 1/4096 square pixel, the free number f and M. Signed
 -- whole numbers throughout, so that no difference is cut off at 0. Definitions only.
 use Prim.Native.Nat.{ℕ, _*_}
 use mathlib.Core.Bool.{cond}
@@ -22,7 +22,7 @@ larger a b = cond (leZ a b) b a
 abbrev pub smaller : ℤ → ℤ → ℤ
 smaller a b = cond (leZ a b) a b
 
--- "The free number f is the larger of |xy| and xx + yy − M". Document 02's S-2 calls this choice "smallest"; `Choice` has the other.
+-- "The free number f is the larger of |xy| and xx + yy − M". S-2 calls this choice "smallest"; `Choice` has the other.
 abbrev pub freeNumber : ℤ → ℤ → ℤ → ℕ → ℤ
 freeNumber xx xy yy m = larger (pos (natAbs xy)) (xx +ℤ yy -ℤ pos m)
 
@@ -42,6 +42,6 @@ molecule xx xy yy f m =
 unfoldable pub kernelWith : ℤ → ℤ → ℤ → ℤ → ℕ → Kernel
 kernelWith xx xy yy f k = record { weights = map natAbs (molecule xx xy yy f (unitsOf k)); sum = sumOf k }
 
--- the kernel of a covariance and a step count, by document 01's free number: the service's, and a caller's who names "smallest"
+-- the kernel of a covariance and a step count, by the smallest free number: the service's, and a caller's who names "smallest"
 abbrev pub kernelOf : ℤ → ℤ → ℤ → ℕ → Kernel
 kernelOf xx xy yy k = kernelWith xx xy yy (freeNumber xx xy yy (unitsOf k)) k

@@ -13,13 +13,14 @@ ghost use Rattle.kernel.specs.Answer.{noKernel, kernelAnswer, magnitudeO
 use limits::ErrorCode;
 use limits::Outcome;
 
-// The units of document 01's covariance: 1/4096 square pixel.
+// The units of REFERENCE's covariance: 1/4096 square pixel.
 pub const UNITS_PER_SQUARE_PIXEL: u64 = 4096;
 
 pub const WEIGHTS: usize = 9;
 
-// How the free number is chosen (document 02, S-2). Binomial, the rule that holds where a caller names none, asks for the paper's
-// binomial kernel's ratio: its centre weighs twice as much as a side (equations 81 and 85). Smallest is document 01's.
+// How the free number is chosen (REFERENCE, "The choice of f"). Binomial, the rule that holds where a caller names none, asks for
+// the paper's binomial kernel's ratio: its centre weighs twice as much as a side (equations 81 and 85). Smallest is the one from
+// before it (K9).
 pub enum Choice {
     Binomial,
     Smallest,

@@ -1,4 +1,4 @@
--- Every number of document 01's refusals and every limit as a literal, and each check at its ends. The numbers are document 01's,
+-- Every number of REFERENCE's refusals and every limit as a literal, and each check at its ends. The numbers are REFERENCE's,
 -- so that a definition and the code cannot be wrong alike. Each table has one computed proof. Assumes nothing.
 use mathlib.Core.Path.{_≡_, refl}
 use mathlib.Core.Bool.{Bool, true, false}

@@ -1,4 +1,4 @@
--- Document 01, "Refusals in checking order": the number of each error code, and the answer of a call that makes several
+-- docs/REFERENCE.md, "Refusals in checking order": the number of each error code, and the answer of a call that makes several
 -- checks. Definitions only.
 use Prim.Native.Nat.{ℕ}
 use mathlib.Core.Bool.{Bool, true, false}
@@ -8,7 +8,7 @@ use Rattle.limits.specs.declared.ErrorCode.the-variants.{TextIsNoJob, Re
 use Rattle.limits.specs.declared.Outcome.{Outcome}
 use Rattle.limits.specs.declared.Outcome.the-variants.{Accepted, Refused}
 
--- the number that document 01 gives each refusal
+-- the number that REFERENCE gives each refusal
 abbrev pub numberOf : ErrorCode → ℕ
 numberOf TextIsNoJob = 1
 numberOf RecordOutOfOrder = 2

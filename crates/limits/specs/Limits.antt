@@ -1,4 +1,4 @@
--- Document 01's limits, each under one name, and the tests that refusals 5, 6, 9 and 10 make. Definitions only.
+-- REFERENCE's limits, each under one name, and the tests that refusals 5, 6, 9 and 10 make. Definitions only.
 use Prim.Native.Nat.{ℕ, _*_}
 use mathlib.Core.Bool.{Bool, _&&_}
 use lib.Dec.{leb, eqb}

@@ -1,4 +1,4 @@
-// What every call shares: document 01's limits, the error codes (its refusals), the outcome of a call, and the checks on step
+// What every call shares: REFERENCE's limits, the error codes (its refusals), the outcome of a call, and the checks on step
 // counts, sides and lengths that several calls make.
 ghost use mathlib.Core.Path.{_≡_};
 ghost use Prim.Native.Nat.{_*_};
@@ -13,7 +13,7 @@ pub const LONGEST_SIDE: u32 = 1024;
 
 pub const BUFFER_PIXELS: usize = 1024;
 
-// Document 01's thirteen refusals, in its order; `numberOf` gives each its number.
+// REFERENCE's thirteen refusals, in its order; `numberOf` gives each its number.
 pub enum ErrorCode {
     TextIsNoJob,
     RecordOutOfOrder,
@@ -30,7 +30,7 @@ pub enum ErrorCode {
     NumbersUsedUp,
 }
 
-// What a call answers where nothing else comes back: document 01's "an answer or one numbered refusal".
+// What a call answers where nothing else comes back: REFERENCE's "an answer or one numbered refusal".
 pub enum Outcome {
     Accepted,
     Refused(ErrorCode),

@@ -1,5 +1,5 @@
--- The calls in document 01's numbers, by cases of what their checks come to, by any rules; and demand 3 in these numbers, from its fields
--- alone, by document 01's rules, since 8, 2 and 16 are theirs. Assumes nothing.
+-- The calls in REFERENCE's numbers, by cases of what their checks come to, by any rules; and demand 3 in these numbers, from its
+-- fields alone, by REFERENCE's rules, since 8, 2 and 16 are theirs. Assumes nothing.
 use mathlib.Core.Path.{_≡_, refl, sym, _∙_, ap, subst}
 use mathlib.Core.Logic.{_⊎_, inl, inr, ⊎-elim}
 use mathlib.Core.List.{List, [], _∷_}

@@ -16,7 +16,7 @@ pub workable-when : (rules : Rules) → 0 < rules .slotCount → 0 < rules .buff
     → rules .slotCount * rules .buffersPerSlot * 1024 ≤ 16384 → Workable rules
 workable-when rules slot buffer room = record { some-slot = slot; some-buffer = buffer; in-store = omega arith }
 
--- document 01's rules are such rules, and so are those that the calls of this library run by
+-- REFERENCE's rules are such rules, and so are those that the calls of this library run by
 pub base-workable : Workable baseRules
 base-workable = workable-when baseRules (omega arith) (omega arith) (omega arith)
 

@@ -1,4 +1,4 @@
--- Demand 3, of every list of calls, by any rules that a service can run by, and so by document 01's. Assumes nothing.
+-- Demand 3, of every list of calls, by any rules that a service can run by, and so by REFERENCE's. Assumes nothing.
 use mathlib.Core.Path.{_≡_, sym, _∙_, ap}
 use mathlib.Core.Bool.{true, not}
 use mathlib.Core.Logic.{_⊎_, inl, inr, ⊎-elim, _↔_}
@@ -111,6 +111,6 @@ pub demand-3-by : (rules : Rules) → Workable rules → Demand3By rules
 demand-3-by rules workable store long calls =
     at-place (after (opened rules store) calls) (after-invariant calls (opened rules store) (opened-invariant rules workable store long))
 
--- and so by document 01's
+-- and so by REFERENCE's
 pub demand-3 : Demand3
 demand-3 = demand-3-by baseRules base-workable

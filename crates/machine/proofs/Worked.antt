@@ -1,4 +1,4 @@
--- Lists of calls worked out by hand from document 01, with what it says is answered, and one computed proof that the definitions
+-- Lists of calls worked out by hand from REFERENCE, with what it says is answered, and one computed proof that the definitions
 -- answer the same. They hold what demand 3 leaves open, such as the order in which seats are filled, and each definition by numbers
 -- that do not come from the code. Two lists are by rules that no document has. Assumes nothing.
 use mathlib.Core.Path.{_≡_, refl}

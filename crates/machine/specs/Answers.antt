@@ -1,4 +1,4 @@
--- Document 01, last paragraph: the number and the values of each case of the service's answers; the number is 0 where the call is
+-- docs/REFERENCE.md, F11: the number and the values of each case of the service's answers; the number is 0 where the call is
 -- not refused. Definitions only.
 use mathlib.Core.List.{List, [], _∷_}
 use Prim.Native.Nat.{ℕ}

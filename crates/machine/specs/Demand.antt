@@ -1,4 +1,4 @@
--- Demand 3: one claim about a whole list of calls, with a field for each sentence of document 01 under "Demand 3 is one
+-- Demand 3: one claim about a whole list of calls, with a field for each sentence of REFERENCE under "Demand 3 is one
 -- claim". Definitions only; `proofs/Theorem` shows it of every list.
 use mathlib.Core.Path.{_≡_}
 use mathlib.Core.Bool.{Bool, true, false, _&&_}
@@ -145,6 +145,6 @@ pub record AtPlace (p : Place) : Type 0 where
 abbrev pub Demand3By : Rules → Type 0
 Demand3By rules = (store : List ℕ) → length store ≡ storeLength → (calls : List Call) → AtPlace (after (opened rules store) calls)
 
--- by document 01's rules: 8 slots of 2 buffers each
+-- by REFERENCE's rules: 8 slots of 2 buffers each
 abbrev pub Demand3 : Type 0
 Demand3 = Demand3By baseRules

@@ -1,4 +1,4 @@
--- The calls and demand 3 in document 01's numbers: the number and the values of each answer (specs/Answers), at any record and
+-- The calls and demand 3 in REFERENCE's numbers: the number and the values of each answer (specs/Answers), at any record and
 -- store, and at a place of a list of calls. Definitions only; `proofs/Numbers` shows both.
 use mathlib.Core.Path.{_≡_}
 use mathlib.Core.Bool.{true}
@@ -50,7 +50,7 @@ pub record CallsInNumbers (rules : Rules) (r : Service) (store : List ℕ) : Typ
   pub counted : countValues (freeCountOf rules r) ≡ valuesUnless (countChecks rules r) (freeBuffers rules r)
 
 -- ---- at a place of a list
--- by document 01's rules, whose numbers stand here as it gives them
+-- by REFERENCE's rules, whose numbers stand here as it gives them
 pub record InNumbers (p : Place) : Type 0 where
   -- a submit answers 0 and the next number, or the refusal's number
   pub submits : (shape : Shape) (k w h : ℕ) (pixels : List ℕ)

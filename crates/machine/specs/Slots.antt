@@ -1,4 +1,4 @@
--- The slots (document 01: seats) of the service record, and searches over them. Definitions only.
+-- The slots (REFERENCE: seats) of the service record, and searches over them. Definitions only.
 use mathlib.Core.Bool.{Bool, true, cond, _&&_}
 use mathlib.Core.List.{List}
 use Prim.Native.Nat.{ℕ, zero, suc, _+_, _-_}

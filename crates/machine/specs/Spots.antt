@@ -1,5 +1,5 @@
--- Document 02, S-1, of the service: what a tick does to the picture of the job that it answers, and the words for a picture that a
--- collect hands over. Definitions only; `proofs/Spots` has the theorems.
+-- docs/REFERENCE.md, "Bright spots", of the service: what a tick does to the picture of the job that it answers, and the words
+-- for a picture that a collect hands over. Definitions only; `proofs/Spots` has the theorems.
 use mathlib.Core.Path.{_≡_}
 use mathlib.Core.List.{List}
 use Prim.Native.Nat.{ℕ}

@@ -2,7 +2,7 @@
 // list of calls keeps demand 3 is a theorem of proofs/; the running calls stand in the crate above.
 use limits::ErrorCode;
 
-// Document 01's eight seats, and the store: 16 buffers, two for each slot, of `limits::BUFFER_PIXELS`.
+// REFERENCE's eight seats, and the store: 16 buffers, two for each slot, of `limits::BUFFER_PIXELS`.
 pub const SLOTS: usize = 8;
 
 pub const BUFFERS: u32 = 16;
@@ -11,7 +11,7 @@ pub const BUFFERS_PER_SLOT: u32 = 2;
 
 pub const STORE_PIXELS: usize = BUFFERS as usize * limits::BUFFER_PIXELS;
 
-// One of eight slots (document 01: a seat). Its number is 0 where it is empty, and then all of it is 0.
+// One of eight slots (REFERENCE: a seat). Its number is 0 where it is empty, and then all of it is 0.
 pub struct Slot {
     pub number: u64,
     pub xx: i32,

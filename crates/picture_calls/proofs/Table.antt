@@ -1,6 +1,6 @@
 -- Worked cases: what the exported calls on shapes and pictures return, and what they leave in what they were lent. The numbers
--- are document 01's, or worked out by hand from its formulas as the comments tell. (`worked_cases` and `smoothing` have those of
--- a run.) Definitions for `Cases`.
+-- are those of docs/REFERENCE.md, or worked out by hand from its formulas as the comments tell. (`worked_cases` and `smoothing` have
+-- those of a run.) Definitions for `Cases`.
 use mathlib.Core.Bool.{true, false}
 use mathlib.Core.List.{List, [], _∷_}
 use Prim.Native.Nat.{ℕ}
@@ -16,6 +16,7 @@ use Rattle.differences.specs.declared.Difference.the-variants.{FirstX, FirstY}
 pub data Call : Type 0 where
   covariance : Shape → List ℤ → Call
   kernel : ℕ → Shape → ℕ → List ℕ → Call
+  shown : ℕ → ℕ → Call
   difference : Difference → ℕ → ℕ → List ℕ → List ℤ → Call
   directional : Direction → ℕ → ℕ → List ℕ → List Float → Call
   pixel : ℕ → ℕ → List ℕ → ℤ → ℤ → ℕ → Call
@@ -106,7 +107,7 @@ table =
     -- the oval above, k 3: M = 12288, f = |2000|, so 4000, 0, 2 × 3700, 2 × 4600 and 4 × (12288 − 12300 + 2000)
     ∷ row (kernel smallest (Oval two one slanted) 3 ten) 0
     (words (49152 ∷ 4000 ∷ 9200 ∷ 0 ∷ 7400 ∷ 7952 ∷ 7400 ∷ 0 ∷ 9200 ∷ 4000 ∷ []))
-    -- by the rule of S-2: of the first, f = half of 3000 + 2500 + 3000 − 4096 = 2202, f + xy = 2902, f − xy = 1502, 1596, 596 and
+    -- by the rule of S2.1: of the first, f = half of 3000 + 2500 + 3000 − 4096 = 2202, f + xy = 2902, f − xy = 1502, 1596, 596 and
     -- 4 × (4096 − 5500 + 2202); and case e. Every number but 1 names this rule.
     ∷ row (kernel byRule (Matrix (pos 3000) (pos 700) (pos 2500)) 1 ten) 0
     (words (16384 ∷ 2902 ∷ 596 ∷ 1502 ∷ 1596 ∷ 3192 ∷ 1596 ∷ 1502 ∷ 596 ∷ 2902 ∷ []))
@@ -148,4 +149,18 @@ table =
     ∷ row (pixel 3 2 six (pos 9) (minus 9) 77) 0 (number 2)
     ∷ row (pixel 3 0 six (pos 0) (pos 0) 77) 6 (number 77)
     ∷ row (pixel 2 2 six (pos 0) (pos 0) 77) 9 (number 77)
+    ∷ []
+
+-- which picture is shown after so many steps: the second where their number is odd, the first where it is even; 5 outside 1 to 64
+abbrev pub shownTable : List Row
+shownTable =
+    row (shown 0 77) 5 (number 77)
+    ∷ row (shown 1 77) 0 (number 1)
+    ∷ row (shown 2 77) 0 (number 0)
+    ∷ row (shown 3 77) 0 (number 1)
+    ∷ row (shown 63 77) 0 (number 1)
+    ∷ row (shown 64 77) 0 (number 0)
+    ∷ row (shown 65 77) 5 (number 77)
+    ∷ row (shown 66 77) 5 (number 77)
+    ∷ row (shown 4294967295 77) 5 (number 77)
     ∷ []

@@ -1,5 +1,6 @@
 -- What the exported calls on shapes and pictures return, and what they leave in the lent slices: a code, 0 or the number of the
 -- first check that fails, and where none does the result. Definitions only.
+use mathlib.Core.Bool.{cond}
 use mathlib.Core.List.{List, [], _∷_}
 use Prim.Native.Nat.{ℕ}
 use lib.Dec.{eqb}
@@ -7,7 +8,7 @@ use lib.IntN.{ℤ}
 use lib.Ieee.{Float}
 use lib.ListN.{length}
 use Rattle.limits.specs.Limits.{stepsInRange}
-use Rattle.limits.specs.Errors.{_otherwise_, firstRefusal, outcomeNumber, heldAfter}
+use Rattle.limits.specs.Errors.{_otherwise_, firstRefusal, outcomeNumber, valueOr, heldAfter}
 use Rattle.limits.specs.declared.Outcome.{Outcome}
 use Rattle.limits.specs.declared.ErrorCode.the-variants.{VarianceOutOfRange, NotADirection, StepsOutOfRange, WrongLength, NoKernel}
 use Rattle.kernel.specs.declared.Choice.{Choice}
@@ -15,6 +16,7 @@ use Rattle.kernel.specs.declared.Kernel.{Kernel}
 use Rattle.covariance.specs.declared.Direction.{Direction}
 use Rattle.covariance.specs.declared.Shape.{Shape}
 use Rattle.covariance.specs.Shapes.{variancesFine, directionFine, covarianceXX, covarianceXY, covarianceYY, shapeHasKernel, kernelOfShapeBy}
+use Rattle.smoothing.specs.Runs.{isEven}
 use Rattle.differences.specs.declared.Difference.{Difference}
 use Rattle.differences.specs.Stencils.{differencesOf}
 use Rattle.differences.specs.Directional.{directionalOf}
@@ -67,7 +69,24 @@ kernelCode shape k words = outcomeNumber (kernelOutcome shape k (length words))
 unfoldable pub kernelAfter : Choice → Shape → ℕ → List ℕ → List ℕ
 kernelAfter choice shape k words = heldAfter (kernelOutcome shape k (length words)) (kernelWords (kernelOfShapeBy choice shape k)) words
 
--- ---- the differences of a picture (`runOf` of crates/smoothing says by itself what a run leaves)
+-- ---- which of a run's two pictures is shown (`runOf` of crates/smoothing says by itself what a run leaves in them). docs/REFERENCE.md,
+-- R6: "The reader is shown the part of whichever buffer holds step k: the first where k is even, else the second"; the first is
+-- picture 0, the second picture 1
+abbrev pub shownPicture : ℕ → ℕ
+shownPicture k = cond (isEven k) 0 1
+
+-- refusal 5 alone
+abbrev pub shownOutcome : ℕ → Outcome
+shownOutcome k = firstRefusal ((stepsInRange k otherwise StepsOutOfRange) ∷ [])
+
+unfoldable pub shownCode : ℕ → ℕ
+shownCode k = outcomeNumber (shownOutcome k)
+
+-- what the lent number holds at the end: a refusal answers no picture
+unfoldable pub shownPictureAfter : ℕ → ℕ → ℕ
+shownPictureAfter k before = valueOr (heldAfter (shownOutcome k) (shownPicture k ∷ []) []) before
+
+-- ---- the differences of a picture
 unfoldable pub differenceCode : ℕ → ℕ → List ℕ → List ℤ → ℕ
 differenceCode w h pixels result = outcomeNumber (firstRefusal (differenceChecks (length pixels) (length result) w h))
 

@@ -6,7 +6,7 @@ ghost use Rattle.limits.specs.Errors.{outcomeNumber, valueOr, heldAfter};
 ghost use Rattle.image.specs.Reading.{readingOf, readingNumber, readingValues};
 ghost use Rattle.kernel.specs.Choice.{choiceOf};
 ghost use Rattle.smoothing.specs.Runs.{runOf};
-ghost use Rattle.picture_calls.specs.Pictures.{kernelCount, kernelWords, covarianceCode, covarianceAfter, kernelCode, kernelAfter, differenceCode, differenceAfter, directionalCode, directionalAfter};
+ghost use Rattle.picture_calls.specs.Pictures.{kernelCount, kernelWords, covarianceCode, covarianceAfter, kernelCode, kernelAfter, shownCode, shownPictureAfter, differenceCode, differenceAfter, directionalCode, directionalAfter};
 use covariance::Covariance;
 use covariance::Direction;
 use covariance::Shape;
@@ -21,6 +21,11 @@ use limits::Outcome;
 const ENTRIES: usize = 3;
 
 const KERNEL_WORDS: usize = 1 + kernel::WEIGHTS;
+
+// The numbers of a run's two pictures.
+const FIRST: u32 = 0;
+
+const SECOND: u32 = 1;
 
 // The covariance of a shape, written as xx, xy, yy in 1/4096 square pixel. Refusals 3, 4, and 9 where there are not 3 entries.
 pub fn write_covariance(shape: Shape, entries: &mut [i32]) -> u32
@@ -111,6 +116,23 @@ pub fn run(
     let by = kernel::choice_of(choice);
     let outcome = smoothing::run_by(by, shape, steps, width, height, first, second);
     limits::outcome_number(outcome)
+}
+
+// Which of its two pictures a run of so many steps ends in: writes 0 for the first, 1 for the second. Refusal 5.
+pub fn shown(steps: u32, picture: &mut u32) -> u32
+    ensures { λ r. ⌜ r ≡ shownCode steps ⌝ }
+    ensures { λ _. ⌜ now (picture .exit) ≡ shownPictureAfter steps (now (picture .entry)) ⌝ }
+{
+    let fine = limits::steps_in_range(steps);
+    if !fine {
+        return limits::error_number(ErrorCode::StepsOutOfRange);
+    }
+    if smoothing::ends_in_first(steps) {
+        *picture = FIRST;
+    } else {
+        *picture = SECOND;
+    }
+    0
 }
 
 // An undivided difference at every place of a picture. Refusals 6 and 9.

@@ -19,7 +19,8 @@ part i n l = take n (drop i l)
 abbrev pub doubled : ℕ → ℕ
 doubled pixel = 2 * pixel + 1
 
--- the line of a row, from the place before its first pixel to the place after its last, "nearest outside"
+-- the line of a row, from the place before its first pixel to the place after its last: "Outside the picture the nearest pixel is
+-- used"
 unfoldable pub paddedOf : List ℕ → List ℕ
 paddedOf row = entries (length row + 2) (λ i. doubled (getD row (nearestPlace (length row) (pos i +ℤ negsuc 0)) 0))
 

@@ -100,7 +100,7 @@ impl Coefficients {
         }
     }
 
-    // The centre weighs twice as much as the pixels beside it, as by document 02's S-2 where a kernel is no taller than wide:
+    // The centre weighs twice as much as the pixels beside it, as by S-2 where a kernel is no taller than wide:
     // four.
     pub fn full_wide(self) -> Products
         requires { ⌜ self .centre ≡ 2 * self .along ⌝ }

@@ -1,5 +1,5 @@
--- S-1 of runs, "A bright spot must never get brighter": of every step of an accepted run, of the two pictures that it leaves, and of two
--- runs of one choice ("S-1's two pictures have one choice"), shape and step count. Assumes nothing.
+-- docs/REFERENCE.md, "Bright spots", of runs: of every step of an accepted run, of the two pictures that it leaves, and of two runs of
+-- one choice ("The two pictures of S1.5 and S1.6 have one choice"), shape and step count. Assumes nothing.
 use mathlib.Core.Path.{_≡_, refl, sym, subst, _∙_}
 use mathlib.Core.Bool.{Bool, true, false, cond}
 use mathlib.Core.List.{List}
@@ -40,7 +40,7 @@ module _ (choice : Choice) (shape : Shape) (k w h : ℕ) (first second : List �
   fills : length first ≡ w * h
   fills = fills-pair shape k w h (length first) (length second) checked .0 .source
 
-  -- S-1 OF THE KERNEL OF EVERY ACCEPTED RUN
+  -- ALL OF IT, OF THE KERNEL OF EVERY ACCEPTED RUN
   pub run-bright-spots : BrightSpots (kernelOfShapeBy choice shape k) w h
   run-bright-spots = bright-spots kernel k sound w h
 

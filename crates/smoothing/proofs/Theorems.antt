@@ -36,7 +36,7 @@ use Rattle.smoothing.specs.Runs.{runChecks, isEven, stepsInFirst, stepsI
 use Rattle.smoothing.specs.Shown.{shownOf}
 use Rattle.smoothing.proofs.Runs.{kernelCheck, fills-pair, kernel-sound}
 
--- the smallest choice is document 01's run, and so no promise of it changed
+-- by the smallest choice a run is one with the kernel of the smallest free number (docs/REFERENCE.md, S2.8)
 pub as-before : (shape : Shape) (k w h : ℕ) (first second : List ℕ)
     → runOf Smallest shape k w h first second
     ≡ runWith (firstRefusal (runChecks shape k w h (length first) (length second))) (kernelOfShape shape k) k w h first second

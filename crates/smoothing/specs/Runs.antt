@@ -1,4 +1,4 @@
--- Document 01, "Smoothing and differences": a run of k steps between two lent pictures. Definitions only.
+-- docs/REFERENCE.md, "Smoothing and differences": a run of k steps between two lent pictures. Definitions only.
 use mathlib.Core.Bool.{Bool, cond}
 use mathlib.Core.List.{List, [], _∷_}
 use Prim.Native.Nat.{ℕ, _-_, _%_}
@@ -56,7 +56,7 @@ runWith Accepted kernel k w h first second =
     }
 runWith (Refused code) kernel k w h first second = record { outcome = Refused code; first = first; second = second }
 
--- the run by a choice (document 02, S-2): its checks have none, since a kernel exists by each choice or by none
+-- the run by a choice: its checks have none, since a kernel exists by each choice or by none (docs/REFERENCE.md, S2.14)
 unfoldable pub runOf : Choice → Shape → ℕ → ℕ → ℕ → List ℕ → List ℕ → Result
 runOf choice shape k w h first second =
     runWith (firstRefusal (runChecks shape k w h (length first) (length second))) (kernelOfShapeBy choice shape k) k w h first second

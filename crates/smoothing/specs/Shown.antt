@@ -1,4 +1,4 @@
--- Document 01, "Smoothing and differences": the part of two lent pictures that the reader of a run is shown. Definitions only.
+-- docs/REFERENCE.md, R6: the part of two lent pictures that the reader of a run is shown. Definitions only.
 use mathlib.Core.Bool.{cond}
 use mathlib.Core.List.{List, []}
 use Prim.Native.Nat.{ℕ, _*_}

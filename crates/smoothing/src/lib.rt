@@ -12,7 +12,7 @@ ghost use Rattle.kernel.specs.Answer.{answerWith};
 ghost use Rattle.kernel.specs.Choice.{defaultChoice};
 ghost use Rattle.covariance.specs.Shapes.{kernelOfShapeBy};
 ghost use Rattle.smoothing.specs.Checks.{pictureChecks};
-ghost use Rattle.smoothing.specs.Runs.{runChecks, stepsInFirst, stepsInSecond, runWith, runOf};
+ghost use Rattle.smoothing.specs.Runs.{runChecks, isEven, stepsInFirst, stepsInSecond, runWith, runOf};
 ghost use Rattle.smoothing.specs.Shown.{shownOf};
 use covariance::Covariance;
 use covariance::Shape;
@@ -142,7 +142,8 @@ fn run_kernel(
     }
 }
 
-// Document 01's run: the first picture is smoothed in so many steps with the kernel of a shape, or refusal 3, 4, 5, 6, 9 or 11.
+// A run (docs/REFERENCE.md, R3 to R5): the first picture is smoothed in so many steps with the kernel of a shape, or refusal 3, 4,
+// 5, 6, 9 or 11.
 // The last step ends in the first picture where their number is even, else in the second; the other holds the step before it.
 pub fn run_by(
     choice: Choice,
@@ -179,6 +180,13 @@ pub fn run(
     run_by(Choice::Binomial, shape, steps, width, height, first, second)
 }
 
+// Whether the last of so many steps is in the first picture.
+pub fn ends_in_first(steps: u32) -> bool
+    ensures { λ r. ⌜ r ≡ isEven steps ⌝ }
+{
+    steps % 2 == 0
+}
+
 // What the reader of a run is shown: the pixels of its last step, or an empty part where the run with the same arguments is
 // refused. A run changes no length, so it is refused with the pictures that it left exactly where it was with those it found.
 // Which part that is, and whether there is one, is the same for each choice.
@@ -200,7 +208,7 @@ pub fn shown_by<'a>(
     match outcome {
         Outcome::Accepted => {
             let size = limits::area(width, height);
-            if steps % 2 == 0 {
+            if ends_in_first(steps) {
                 &first[..size]
             } else {
                 &second[..size]

@@ -1,4 +1,4 @@
-// A view of an image: lent pixels with their width and height kept together (document 01: "in one record that refers to them").
+// A view of an image: lent pixels with their width and height kept together (REFERENCE: "in one record that refers to them").
 // Functions over the view are few and thin: `read` takes it apart and calls the covered core, `image::pixel_at`. Crates above
 // call `read_pixel`, whose parameters are plain, so that they have no view of their own.
 ghost use mathlib.Core.Path.{_≡_};

@@ -1,4 +1,4 @@
--- Exported calls worked through by hand from document 01 and the layout of the words: codes, words and numbers of each kind of
+-- Exported calls worked through by hand from REFERENCE and the layout of the words: codes, words and numbers of each kind of
 -- answer. Definitions for `Cases`.
 use mathlib.Core.List.{List, [], _∷_, _++_}
 use Prim.Native.Nat.{ℕ}
@@ -106,7 +106,7 @@ calls =
     10 (stored (1 ∷ 2 ∷ []) (1000 ∷ 0 ∷ []) six) six
     ∷ refused (submit (Matrix (pos 900) (negsuc 799) (pos 1000)) 65 3 2 six) (oneJob 2) 5 six
     ∷ refused (submit (Matrix (pos 900) (negsuc 799) (pos 1000)) 4 2 2 six) (oneJob 2) 9 six
-    -- document 01's case g
+    -- REFERENCE's case g
     ∷ refused (submit (Matrix (pos 1000) (pos 1001) (pos 1000)) 1 3 2 six) (oneJob 2) 11 six
     ∷ refused (submit (Matrix (pos 900) (negsuc 799) (pos 1000)) 4 3 2 six) tooFew 2 six
     ∷ refusedWith (zeros 16383) (submit (Matrix (pos 900) (negsuc 799) (pos 1000)) 4 3 2 six) (oneJob 2) 2 six

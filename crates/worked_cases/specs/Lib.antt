@@ -1,2 +1,2 @@
--- Document 01's worked cases.
+-- REFERENCE's worked cases.
 pub mod Table

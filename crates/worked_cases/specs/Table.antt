@@ -1,5 +1,5 @@
--- Document 01, "Pictures worked through", as one table: each row has what goes in and what the documents say comes out, by the rule of
--- document 02's S-2 and, where that differs, by the smallest free number too. Definitions only.
+-- docs/REFERENCE.md, "Pictures worked through", as one table: each row has what goes in and what REFERENCE says comes out, by the
+-- rule of S-2 and, where that differs, by the smallest free number too. Definitions only.
 use Prim.Native.Nat.{ℕ, _*_}
 use Prim.Native.String.{String}
 use mathlib.Core.List.{List, [], _∷_, map}
@@ -76,7 +76,7 @@ smooths choice xx xy yy free sum weights w h pixels smoothed printed =
       printed = printed;
     }
 
--- A case that document 01 gives without pixels has a picture of one pixel, 7, which every kernel leaves as it is: outside the
+-- A case that REFERENCE gives without pixels has a picture of one pixel, 7, which every kernel leaves as it is: outside the
 -- picture the nearest pixel is used, and that is always this one.
 abbrev pub accepted : Choice → ℤ → ℤ → ℤ → ℕ → ℕ → ℕ → List ℕ → List (String × List ℕ) → Case
 accepted choice xx xy yy k free sum weights printed =
@@ -131,7 +131,7 @@ table =
     (0 ∷ 0 ∷ 0 ∷ 0 ∷ 1600 ∷ 0 ∷ 0 ∷ 0 ∷ 0 ∷ []) (100 ∷ 200 ∷ 100 ∷ 200 ∷ 400 ∷ 200 ∷ 100 ∷ 200 ∷ 100 ∷ [])
     (prints "J\t2048\t0\t2048\t1\t3\t3\n0\t0\t0\n0\t1600\t0\n0\t0\t0\n"
     "K\t16\t1\t2\t1\t2\t4\t2\t1\t2\t1\nP\t3\t3\n100\t200\t100\n200\t400\t200\n100\t200\t100\n")
-    -- by the smallest free number: document 01's listing
+    -- by the smallest free number: case a as T1 has it
     ∷ smooths Smallest (pos 2048) (pos 0) (pos 2048) 0 16384 (0 ∷ 4096 ∷ 0 ∷ 4096 ∷ 0 ∷ 4096 ∷ 0 ∷ 4096 ∷ 0 ∷ []) 3 3
     (0 ∷ 0 ∷ 0 ∷ 0 ∷ 1600 ∷ 0 ∷ 0 ∷ 0 ∷ 0 ∷ []) (0 ∷ 400 ∷ 0 ∷ 400 ∷ 0 ∷ 400 ∷ 0 ∷ 400 ∷ 0 ∷ []) []
     -- b. "Matrix 0, 0, 0, k 1: centre only"

@@ -1,1 +1,1 @@
-// No code: document 01's worked cases, as one table that the prover computes.
+// No code: REFERENCE's worked cases, as one table that the prover computes.

@@ -1,5 +1,5 @@
 //! The bench program of the reference: reads one job's text from standard
-//! input and prints what document 01 says for it.
+//! input and prints the answer that docs/REFERENCE.md has for it.
 
 use reference::job_text::{answer, MAX_TEXT};
 use std::io::{self, Read, Write};

@@ -46,8 +46,8 @@ pub fn shape_of(shape: ModelShape) -> Shape {
             short,
             direction,
         } => Shape::Oval {
-            long,
-            short,
+            long_variance: long,
+            short_variance: short,
             direction: direction_of(direction),
         },
     }

@@ -2,11 +2,14 @@
 //! service's own: its record and its store are edited only where the fault acts.
 
 use super::faults::{CollectFault, Fault, FreeFault, SubmitFault, TurnFault, WithdrawFault};
-use super::seat::{Seat, LAST_FILLED, LAST_NUMBER, LAST_SERVED};
+use super::seat::Seat;
 use super::wrong_steps::{Stage, Write};
 use crate::services::{Service, Submitted};
 use reference::kernel::{free_number, UNITS};
-use vokhsaot::{Covariance, Error, Shape, BUFFER_PIXELS, SEATS};
+use vokhsaot::{
+    Covariance, Error, Shape, BUFFER_PIXELS, SEATS, WORD_LAST_FILLED, WORD_LAST_NUMBER,
+    WORD_LAST_SERVED,
+};
 
 /// The seat before the first: a search that begins after it begins at seat 0.
 const BEFORE_FIRST: u64 = SEATS as u64 - 1;
@@ -106,16 +109,16 @@ impl Faulty {
             // The number is taken before a seat is looked for.
             SubmitFault::RefusalTakesNumber => {
                 let answer = Service::submit(&mut self.service, submitted);
-                let next = self.word(LAST_NUMBER).checked_add(1);
+                let next = self.word(WORD_LAST_NUMBER).checked_add(1);
                 if let (Err(Error::NoFreeBuffers), Some(next)) = (answer, next) {
-                    self.set_word(LAST_NUMBER, next);
+                    self.set_word(WORD_LAST_NUMBER, next);
                 }
                 answer
             }
             // The withdraw of the last job gives its number back.
             SubmitFault::NumberAgain if self.memory.last_withdrawn => {
-                let before = self.word(LAST_NUMBER) - 1;
-                self.submit_with(submitted, LAST_NUMBER, before)
+                let before = self.word(WORD_LAST_NUMBER) - 1;
+                self.submit_with(submitted, WORD_LAST_NUMBER, before)
             }
             // "At most" taken for "less than".
             SubmitFault::EndHasNoKernel if is_at_the_end(submitted) => {
@@ -128,7 +131,9 @@ impl Faulty {
             SubmitFault::FullAtSeven if self.filled() == SEATS - 1 => {
                 self.refuse(submitted, Error::NoFreeBuffers)
             }
-            SubmitFault::FillsFromFirst => self.submit_with(submitted, LAST_FILLED, BEFORE_FIRST),
+            SubmitFault::FillsFromFirst => {
+                self.submit_with(submitted, WORD_LAST_FILLED, BEFORE_FIRST)
+            }
             // Pixels 0 to 1022 of a buffer are taken for all of them.
             SubmitFault::LastPixelNotCopied if submitted.picture.len() == BUFFER_PIXELS => {
                 self.submit_without_last_pixel(submitted)
@@ -148,7 +153,7 @@ impl Faulty {
             .collect();
         let answer = Service::submit(&mut self.service, submitted);
         if answer.is_ok() {
-            let seat = self.word(LAST_FILLED) as usize;
+            let seat = self.word(WORD_LAST_FILLED) as usize;
             self.write(&[Write {
                 start: last(seat),
                 pixels: vec![kept[seat]],
@@ -166,7 +171,7 @@ impl Faulty {
                 let writes = fault.writes(&Stage {
                     store: self.service.store(),
                     seat,
-                    last_served: Seat::at(words, words[LAST_SERVED] as usize),
+                    last_served: Seat::at(words, words[WORD_LAST_SERVED] as usize),
                     is_oval: self.memory.is_oval[seat.place],
                     was_odd: self.memory.was_odd[seat.place],
                 });
@@ -179,7 +184,7 @@ impl Faulty {
     }
 
     fn serve_in_turn(&mut self, fault: TurnFault, seat: Seat) -> Result<Option<u64>, Error> {
-        let last = self.word(LAST_SERVED);
+        let last = self.word(WORD_LAST_SERVED);
         match fault {
             // From seat 6 the search does not come round to seat 6.
             TurnFault::IdleAtSeatSix if seat.place == 6 && last == 6 => return Ok(None),
@@ -188,10 +193,10 @@ impl Faulty {
             TurnFault::SkipsFirst if seat.place == 0 && last == BEFORE_FIRST => {
                 let words = self.service.words();
                 if Seat::all(words).any(|other| other.place != 0 && other.left > 0) {
-                    self.set_word(LAST_SERVED, 0);
+                    self.set_word(WORD_LAST_SERVED, 0);
                 }
             }
-            TurnFault::BeginsAtFirst => self.set_word(LAST_SERVED, BEFORE_FIRST),
+            TurnFault::BeginsAtFirst => self.set_word(WORD_LAST_SERVED, BEFORE_FIRST),
             TurnFault::IdleAtSeatSix
             | TurnFault::IdleHalfDone
             | TurnFault::SkipsFirst
@@ -250,7 +255,7 @@ impl Faulty {
         match fault {
             WithdrawFault::MovesTurn => {
                 let answer = self.service.withdraw(number);
-                self.set_word(LAST_SERVED, seat.place as u64);
+                self.set_word(WORD_LAST_SERVED, seat.place as u64);
                 answer
             }
             WithdrawFault::RefusesStarted if seat.left > 0 && seat.done() > 0 => {
@@ -273,7 +278,7 @@ impl Service for Faulty {
     fn submit(&mut self, submitted: Submitted) -> Result<u64, Error> {
         let answer = self.faulty_submit(submitted);
         if answer.is_ok() {
-            let seat = self.word(LAST_FILLED) as usize;
+            let seat = self.word(WORD_LAST_FILLED) as usize;
             self.memory.is_oval[seat] = matches!(submitted.shape, Shape::Oval { .. });
             self.memory.last_withdrawn = false;
             self.memory.not_collected += 1;
@@ -287,8 +292,8 @@ impl Service for Faulty {
             None => {
                 let answer = self.service.tick();
                 if self.fault == Fault::Turn(TurnFault::IdleMovesOn) {
-                    let next = (self.word(LAST_SERVED) + 1) % SEATS as u64;
-                    self.set_word(LAST_SERVED, next);
+                    let next = (self.word(WORD_LAST_SERVED) + 1) % SEATS as u64;
+                    self.set_word(WORD_LAST_SERVED, next);
                 }
                 answer
             }
@@ -310,14 +315,14 @@ impl Service for Faulty {
         let answer = self.faulty_withdraw(number);
         if let (Ok(_), Some(seat)) = (answer, seat) {
             self.memory.was_odd[seat.place] = !seat.done().is_multiple_of(2);
-            self.memory.last_withdrawn |= number == self.word(LAST_NUMBER);
+            self.memory.last_withdrawn |= number == self.word(WORD_LAST_NUMBER);
         }
         answer
     }
 
     fn free(&self) -> Result<u32, Error> {
         let Fault::Free(fault) = self.fault else {
-            return self.service.free();
+            return self.service.free_count();
         };
         let taken = match fault {
             FreeFault::AlwaysSixteen => 0,

@@ -1,15 +1,13 @@
 //! A filled seat, read from the words of a record.
 
-use crate::model::{choice_of, SEAT_WORDS};
+use crate::model::choice_of;
 use crate::services::JOB_CHOICE;
 use reference::kernel::{kernel_by, Covariance, Kernel};
 use std::ops::Range;
-use vokhsaot::{BUFFER_PIXELS, SEATS};
-
-/// The words after those of the seats.
-pub const LAST_NUMBER: usize = SEATS * SEAT_WORDS;
-pub const LAST_FILLED: usize = LAST_NUMBER + 1;
-pub const LAST_SERVED: usize = LAST_NUMBER + 2;
+use vokhsaot::{
+    BUFFER_PIXELS, SEATS, SEAT_HEIGHT, SEAT_JOB, SEAT_STEPS, SEAT_STEPS_LEFT, SEAT_WIDTH,
+    SEAT_WORDS, SEAT_XX, SEAT_XY, SEAT_YY, WORD_LAST_SERVED,
+};
 
 #[derive(Clone, Copy)]
 pub struct Seat {
@@ -28,19 +26,19 @@ impl Seat {
         let word = |field: usize| words[place * SEAT_WORDS + field];
         // A record in order keeps 32 bits in each of these words.
         let entry = |field: usize| word(field) as u32 as i32;
-        let number = word(0);
+        let number = word(SEAT_JOB);
         (number != 0).then(|| Seat {
             place,
             number,
             covariance: Covariance {
-                xx: entry(1),
-                xy: entry(2),
-                yy: entry(3),
+                xx: entry(SEAT_XX),
+                xy: entry(SEAT_XY),
+                yy: entry(SEAT_YY),
             },
-            steps: word(4) as u32,
-            left: word(5) as u32,
-            width: word(6) as u32,
-            height: word(7) as u32,
+            steps: word(SEAT_STEPS) as u32,
+            left: word(SEAT_STEPS_LEFT) as u32,
+            width: word(SEAT_WIDTH) as u32,
+            height: word(SEAT_HEIGHT) as u32,
         })
     }
 
@@ -55,7 +53,7 @@ impl Seat {
 
     /// The seat that a tick has to serve.
     pub fn whose_turn(words: &[u64]) -> Option<Seat> {
-        let last = words[LAST_SERVED] as usize;
+        let last = words[WORD_LAST_SERVED] as usize;
         (1..=SEATS)
             .filter_map(|count| Seat::at(words, (last + count) % SEATS))
             .find(|seat| seat.left > 0)

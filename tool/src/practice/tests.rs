@@ -10,11 +10,11 @@ use crate::rules::Rule;
 use crate::services::{proved, Opening, JOB_CHOICE};
 use reference::random::Random;
 use std::collections::{BTreeMap, BTreeSet};
-use vokhsaot::{run_by, shown, Direction, Error, Shape};
+use vokhsaot::{smooth_by, Direction, Error, Shape};
 
 /// By number, rules that the calls of an answer break. The first is among those that a soak finds broken first.
 const BROKEN: [&[Rule]; 33] = [
-    &[Rule::CollectAccepted],
+    &[Rule::FinishedCollected],
     &[Rule::SubmitAccepted],
     &[Rule::TickStore, Rule::LoneRun],
     &[Rule::IdleChangesNothing],
@@ -38,7 +38,7 @@ const BROKEN: [&[Rule]; 33] = [
     &[Rule::TickStore, Rule::LoneRun],
     &[Rule::SubmitAccepted],
     &[Rule::TickStore, Rule::LoneRun],
-    &[Rule::LeaveRecord],
+    &[Rule::WithdrawRecord],
     &[Rule::TickStore, Rule::LoneRun, Rule::LoneService],
     &[Rule::Turn],
     &[Rule::TickStore, Rule::LoneRun],
@@ -113,7 +113,6 @@ fn collect(service: &mut dyn Service, trial: &Submission, number: u64) -> Result
 
 /// The picture that the library's run by the choice of a job shows.
 fn run_of(trial: &Submission) -> Vec<u16> {
-    let (mut first, mut second) = (trial.picture(), trial.picture());
     let Submission {
         shape,
         steps,
@@ -121,9 +120,7 @@ fn run_of(trial: &Submission) -> Vec<u16> {
         height,
         ..
     } = *trial;
-    let (one, two) = (&mut first, &mut second);
-    run_by(JOB_CHOICE, shape, steps, width, height, one, two).unwrap();
-    shown(steps, &first, &second).to_vec()
+    smooth_by(JOB_CHOICE, shape, steps, width, height, &trial.picture()).unwrap()
 }
 
 /// An odd number of steps, the job of the course's lesson on lone jobs.
@@ -138,8 +135,8 @@ const ROUND: Submission = Submission {
 /// An even number of steps, a shape that leans, and sides that differ.
 const LEANING: Submission = Submission {
     shape: Shape::Oval {
-        long: 2.0,
-        short: 1.0,
+        long_variance: 2.0,
+        short_variance: 1.0,
         direction: Direction {
             cosine: 0.8,
             sine: 0.6,
@@ -348,7 +345,7 @@ fn services_that_once_passed() {
         ),
         (
             Fault::Collect(CollectFault::RefusesAll),
-            Rule::CollectAccepted,
+            Rule::FinishedCollected,
         ),
         (Fault::Step(StepFault::EvenGrey), Rule::LoneRun),
         (Fault::Step(StepFault::CountsOnly), Rule::LoneRun),

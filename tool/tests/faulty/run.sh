@@ -14,7 +14,7 @@ for call in opening tick collect withdraw free_count run_matrix_by; do
     renamed+=(--redefine-sym "vokhsaot_$call=proved_$call")
 done
 objcopy "${renamed[@]}" "$library/libcapi.a" "$work/libcapi.a"
-gcc -std=c11 -Wall -Wextra -Werror -O2 -I "$here/../../../rust/include" -c "$here/wrapper.c" -o "$work/wrapper.o"
+gcc -std=c11 -Wall -Wextra -Werror -O2 -I "$here/../../../c/include" -c "$here/wrapper.c" -o "$work/wrapper.o"
 ar r "$work/libcapi.a" "$work/wrapper.o"
 # The folder is named anew each time, so cargo links again; where it builds is the caller's to say.
 VOKHSAOT_LIB_DIR=$work cargo build --quiet --release --offline --manifest-path "$here/../../Cargo.toml"

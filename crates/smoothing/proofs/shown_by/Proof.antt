@@ -1,5 +1,5 @@
--- `smoothing::shown_by` meets its contract: where the checks pass, each picture has w × h pixels, and the parity of the steps says
--- which is shown; else no pixel is. Assumes nothing.
+-- `smoothing::shown_by` meets its contract: where the checks pass, each picture has w × h pixels, and `ends_in_first` says which is
+-- shown; else no pixel is. Assumes nothing.
 use mathlib.Core.Path.{_≡_, sym, ap, _∙_}
 use native.Mathlib.Omega.{arith}
 use lib.ListN.{length}
@@ -12,7 +12,6 @@ use Rattle.stepping.specs.Step.{PicturePair}
 use Rattle.covariance.specs.Shapes.{kernelOfShapeBy}
 use Rattle.smoothing.specs.Runs.{runChecks}
 use Rattle.smoothing.specs.Shown.{shownOf}
-use Rattle.smoothing.proofs.Steps.{even, odd}
 use Rattle.smoothing.proofs.Runs.{fills-pair, same-outcome}
 use Rattle.smoothing.proofs.shown_by.Statement.{statement}
 use Rattle.smoothing.proofs.shown_by.Tie as tie
@@ -25,6 +24,9 @@ enum-told c = search needs
 
 area-requires : tie.Need-area-requires
 area-requires c κs = search needs
+
+ends-in-first-requires : tie.Need-ends-in-first-requires
+ends-in-first-requires c κs = search needs
 
 -- the outcome of the call is what the checks come to
 abbrev outcome : tie.Start → Outcome
@@ -49,10 +51,10 @@ full c =
     fills-pair (a .shape) (a .steps) (a .width) (a .height) (length (a .first .now)) (length (a .second .now)) (fine c) .0
 
 slice-aggregate-result : tie.Need-slice-aggregate-result
-slice-aggregate-result c = let f = full (c .before .before) in sym (length-take-le _ _ (omega arith))
+slice-aggregate-result c = let f = full (c .before .before .before) in sym (length-take-le _ _ (omega arith))
 
 slice-aggregate-result-2 : tie.Need-slice-aggregate-result-2
-slice-aggregate-result-2 c = let f = full (c .before .before) in sym (length-take-le _ _ (omega arith))
+slice-aggregate-result-2 c = let f = full (c .before .before .before) in sym (length-take-le _ _ (omega arith))
 
 enum-told-2 : tie.Need-enum-told-2
 enum-told-2 c = search needs
@@ -63,14 +65,14 @@ slice-aggregate-result-3 c = search needs
 returns : tie.Need-returns
 unfolding shownOf
 returns c =
-    let a = c .before .before .before .before .before .before .before .before .args in
-    rw (fine (c .before .before), even (a .steps) (omega arith), c .before .before .area .ensures)
+    let area = c .before .before .before in
+    rw (fine area, sym (c .before .before .ends-in-first .ensures) ∙ c .before .if1 .taken, area .area .ensures)
 
 returns-2 : tie.Need-returns-2
 unfolding shownOf
 returns-2 c =
-    let a = c .before .before .before .before .before .before .before .before .args in
-    rw (fine (c .before .before), odd (a .steps) (omega arith), c .before .before .area .ensures)
+    let area = c .before .before .before in
+    rw (fine area, sym (c .before .before .ends-in-first .ensures) ∙ c .before .if1 .left, area .area .ensures)
 
 returns-3 : tie.Need-returns-3
 unfolding shownOf
@@ -83,6 +85,7 @@ shown-by-spec =
     run-kernel-requires
     enum-told
     area-requires
+    ends-in-first-requires
     slice-aggregate-result
     slice-aggregate-result-2
     enum-told-2

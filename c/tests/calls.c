@@ -1,0 +1,485 @@
+/* Each exported call by the header alone, mostly on the worked case of a single bright pixel. Prints nothing where all is well. */
+#include "vokhsaot.h"
+
+#include <stdio.h>
+#include <stdlib.h>
+#include <string.h>
+
+/* Limits, layout and version are numbers for the preprocessor too. */
+#if VOKHSAOT_VERSION_MAJOR != 0 || VOKHSAOT_VERSION_MINOR < 3 || VOKHSAOT_VERSION_PATCH < 0
+#error "the version"
+#endif
+#if VOKHSAOT_LARGEST_PIXEL != 65535 || VOKHSAOT_MOST_STEPS != 64 || VOKHSAOT_LONGEST_SIDE != 1024 \
+    || VOKHSAOT_UNITS_PER_SQUARE_PIXEL != 4096 || VOKHSAOT_LARGEST_VARIANCE != 64
+#error "limits of pictures and shapes"
+#endif
+#if VOKHSAOT_SEATS != 8 || VOKHSAOT_BUFFERS != 2 * VOKHSAOT_SEATS || VOKHSAOT_BUFFER_PIXELS != 1024 \
+    || VOKHSAOT_STORE_PIXELS != VOKHSAOT_BUFFERS * VOKHSAOT_BUFFER_PIXELS
+#error "limits of the service"
+#endif
+#if VOKHSAOT_COVARIANCE_ENTRIES != 3 || VOKHSAOT_KERNEL_NUMBERS != 10 || VOKHSAOT_TEXT_BYTES != 16384 \
+    || VOKHSAOT_ANSWER_BYTES != 49240
+#error "lengths of lent slices"
+#endif
+#if VOKHSAOT_SEAT_WORDS != 8 || VOKHSAOT_WORD_LAST_NUMBER != VOKHSAOT_SEATS * VOKHSAOT_SEAT_WORDS \
+    || VOKHSAOT_WORD_LAST_FILLED != 65 || VOKHSAOT_WORD_LAST_SERVED != 66 || VOKHSAOT_WORDS != VOKHSAOT_WORD_LAST_SERVED + 1
+#error "the record's layout"
+#endif
+
+static void expect(int holds, const char *what) {
+    if (!holds) {
+        fprintf(stderr, "not so: %s\n", what);
+        exit(1);
+    }
+}
+
+/* Case a's picture, and what a step makes of it by each choice. */
+static const uint16_t picture[9] = {0, 0, 0, 0, 1600, 0, 0, 0, 0};
+static const uint16_t filled[9] = {100, 200, 100, 200, 400, 200, 100, 200, 100};
+static const uint16_t hollow[9] = {0, 400, 0, 400, 0, 400, 0, 400, 0};
+
+/* Case a's kernel by each choice: the sum and nine weights. */
+static const uint64_t filled_kernel[10] = {16384, 1024, 2048, 1024, 2048, 4096, 2048, 1024, 2048, 1024};
+static const uint64_t hollow_kernel[10] = {16384, 0, 4096, 0, 4096, 0, 4096, 0, 4096, 0};
+
+static void shapes(void) {
+    int32_t entries[VOKHSAOT_COVARIANCE_ENTRIES] = {0};
+
+    expect(vokhsaot_covariance_round(0.5, entries, 3) == 0 && entries[0] == 2048 && entries[1] == 0 && entries[2] == 2048,
+           "the covariance of a round shape");
+    expect(vokhsaot_covariance_oval(0.25, 0.5, 0.0, 1.0, entries, 3) == 0 && entries[0] == 2048 && entries[1] == 0
+               && entries[2] == 1024, "the covariance of an oval shape");
+    expect(vokhsaot_covariance_round(65.0, entries, 3) == VOKHSAOT_VARIANCE_OUT_OF_RANGE && entries[2] == 1024,
+           "a refusal changes nothing");
+}
+
+static void kernel_is(uint32_t code, uint64_t *numbers, const uint64_t *expected, const char *what) {
+    expect(code == 0 && memcmp(numbers, expected, 10 * sizeof *numbers) == 0, what);
+    memset(numbers, 0, 10 * sizeof *numbers);
+}
+
+static void kernels(void) {
+    uint64_t n[VOKHSAOT_KERNEL_NUMBERS] = {0};
+
+    kernel_is(vokhsaot_kernel_matrix(2048, 0, 2048, 1, n, 10), n, filled_kernel, "a matrix without a choice");
+    kernel_is(vokhsaot_kernel_round(0.5, 1, n, 10), n, filled_kernel, "a round shape without a choice");
+    kernel_is(vokhsaot_kernel_oval(0.5, 0.5, 1.0, 0.0, 1, n, 10), n, filled_kernel, "an oval without a choice");
+
+    kernel_is(vokhsaot_kernel_matrix_by(VOKHSAOT_BINOMIAL, 2048, 0, 2048, 1, n, 10), n, filled_kernel, "a matrix, binomial");
+    kernel_is(vokhsaot_kernel_round_by(VOKHSAOT_BINOMIAL, 0.5, 1, n, 10), n, filled_kernel, "a round shape, binomial");
+    kernel_is(vokhsaot_kernel_oval_by(VOKHSAOT_BINOMIAL, 0.5, 0.5, 1.0, 0.0, 1, n, 10), n, filled_kernel, "an oval, binomial");
+
+    kernel_is(vokhsaot_kernel_matrix_by(VOKHSAOT_SMALLEST, 2048, 0, 2048, 1, n, 10), n, hollow_kernel, "a matrix, smallest");
+    kernel_is(vokhsaot_kernel_round_by(VOKHSAOT_SMALLEST, 0.5, 1, n, 10), n, hollow_kernel, "a round shape, smallest");
+    kernel_is(vokhsaot_kernel_oval_by(VOKHSAOT_SMALLEST, 0.5, 0.5, 1.0, 0.0, 1, n, 10), n, hollow_kernel, "an oval, smallest");
+
+    kernel_is(vokhsaot_kernel_matrix_by(2, 2048, 0, 2048, 1, n, 10), n, filled_kernel, "the choice 2 is none of its own");
+    kernel_is(vokhsaot_kernel_round_by(UINT32_MAX, 0.5, 1, n, 10), n, filled_kernel, "nor is the largest number");
+}
+
+/* The order of the arguments and of the weights, by shapes that are no mirror images of themselves. */
+static void unequal_kernels(void) {
+    static const uint64_t lean[10] = {16384, 2000, 0, 0, 0, 12384, 0, 0, 0, 2000};
+    static const uint64_t wide[10] = {16384, 512, 1024, 512, 3072, 6144, 3072, 512, 1024, 512};
+    static const uint64_t wide_smallest[10] = {16384, 0, 2048, 0, 4096, 4096, 4096, 0, 2048, 0};
+    uint64_t n[VOKHSAOT_KERNEL_NUMBERS] = {0};
+
+    kernel_is(vokhsaot_kernel_matrix(1000, 1000, 1000, 1, n, 10), n, lean, "a leaning matrix");
+    kernel_is(vokhsaot_kernel_matrix_by(VOKHSAOT_SMALLEST, 1000, 1000, 1000, 1, n, 10), n, lean, "the same, smallest");
+    kernel_is(vokhsaot_kernel_matrix(2048, 0, 1024, 1, n, 10), n, wide, "a wide matrix");
+    kernel_is(vokhsaot_kernel_oval(0.5, 0.25, 1.0, 0.0, 1, n, 10), n, wide, "a wide oval");
+    kernel_is(vokhsaot_kernel_oval_by(VOKHSAOT_SMALLEST, 0.5, 0.25, 1.0, 0.0, 1, n, 10), n, wide_smallest, "the same, smallest");
+}
+
+static void refused_kernels(void) {
+    static const uint64_t kept[10] = {1, 2, 3, 4, 5, 6, 7, 8, 9, 10};
+    uint64_t n[VOKHSAOT_KERNEL_NUMBERS];
+
+    memcpy(n, kept, sizeof n);
+    expect(vokhsaot_kernel_matrix(4097, 0, 4096, 1, n, 10) == VOKHSAOT_NO_KERNEL, "no kernel");
+    expect(vokhsaot_kernel_round(-1.0, 1, n, 10) == VOKHSAOT_VARIANCE_OUT_OF_RANGE, "no variance");
+    expect(vokhsaot_kernel_oval(0.5, 0.5, 2.0, 0.0, 1, n, 10) == VOKHSAOT_NOT_A_DIRECTION, "no direction");
+    for (uint32_t choice = VOKHSAOT_BINOMIAL; choice <= VOKHSAOT_SMALLEST; choice++) {
+        expect(vokhsaot_kernel_matrix_by(choice, 4097, 0, 4096, 1, n, 10) == VOKHSAOT_NO_KERNEL, "no kernel by either choice");
+        expect(vokhsaot_kernel_round_by(choice, 0.5, 1, n, 9) == VOKHSAOT_WRONG_LENGTH, "a short buffer");
+        expect(vokhsaot_kernel_oval_by(choice, 0.5, 0.5, 1.0, 0.0, 65, n, 10) == VOKHSAOT_STEPS_OUT_OF_RANGE, "many steps");
+    }
+    expect(memcmp(n, kept, sizeof n) == 0, "a refusal changes nothing");
+}
+
+/* A run of one step that leaves its first picture as it was and writes the expected one into the second. */
+static void run_is(uint32_t code, const uint16_t *first, uint16_t *second, const uint16_t *expected, const char *what) {
+    expect(code == 0 && memcmp(first, picture, sizeof picture) == 0, what);
+    expect(memcmp(second, expected, sizeof picture) == 0, what);
+    memset(second, 0, sizeof picture);
+}
+
+static void runs(void) {
+    uint16_t a[9], b[9] = {0}, pixel = 0;
+    const uint32_t binomial = VOKHSAOT_BINOMIAL, smallest = VOKHSAOT_SMALLEST;
+
+    memcpy(a, picture, sizeof a);
+    run_is(vokhsaot_run_matrix(2048, 0, 2048, 1, 3, 3, a, 9, b, 9), a, b, filled, "a matrix without a choice");
+    run_is(vokhsaot_run_round(0.5, 1, 3, 3, a, 9, b, 9), a, b, filled, "a round run without a choice");
+    run_is(vokhsaot_run_oval(0.5, 0.5, 1.0, 0.0, 1, 3, 3, a, 9, b, 9), a, b, filled, "an oval run without a choice");
+
+    run_is(vokhsaot_run_matrix_by(binomial, 2048, 0, 2048, 1, 3, 3, a, 9, b, 9), a, b, filled, "a matrix, binomial");
+    run_is(vokhsaot_run_round_by(binomial, 0.5, 1, 3, 3, a, 9, b, 9), a, b, filled, "a round run, binomial");
+    run_is(vokhsaot_run_oval_by(binomial, 0.5, 0.5, 1.0, 0.0, 1, 3, 3, a, 9, b, 9), a, b, filled, "an oval run, binomial");
+
+    run_is(vokhsaot_run_matrix_by(smallest, 2048, 0, 2048, 1, 3, 3, a, 9, b, 9), a, b, hollow, "a matrix, smallest");
+    run_is(vokhsaot_run_round_by(smallest, 0.5, 1, 3, 3, a, 9, b, 9), a, b, hollow, "a round run, smallest");
+    run_is(vokhsaot_run_oval_by(smallest, 0.5, 0.5, 1.0, 0.0, 1, 3, 3, a, 9, b, 9), a, b, hollow, "an oval run, smallest");
+
+    run_is(vokhsaot_run_matrix_by(7, 2048, 0, 2048, 1, 3, 3, a, 9, b, 9), a, b, filled, "the choice 7 is none of its own");
+    expect(vokhsaot_pixel(picture, 9, 3, 3, 1, 1, &pixel) == 0 && pixel == 1600, "a pixel");
+    expect(vokhsaot_pixel(filled, 9, 3, 3, 1, -5, &pixel) == 0 && pixel == 200, "the nearest pixel");
+}
+
+static void refused_runs(void) {
+    uint16_t a[9], b[9];
+
+    memcpy(a, picture, sizeof a);
+    memcpy(b, hollow, sizeof b);
+    expect(vokhsaot_run_matrix(0, 1, 0, 1, 3, 3, a, 9, b, 9) == VOKHSAOT_NO_KERNEL, "no kernel");
+    expect(vokhsaot_run_round(0.5, 65, 3, 3, a, 9, b, 9) == VOKHSAOT_STEPS_OUT_OF_RANGE, "too many steps");
+    expect(vokhsaot_run_oval(0.5, 0.5, 1.0, 1.0, 1, 3, 3, a, 9, b, 9) == VOKHSAOT_NOT_A_DIRECTION, "no direction");
+    for (uint32_t choice = VOKHSAOT_BINOMIAL; choice <= VOKHSAOT_SMALLEST; choice++) {
+        expect(vokhsaot_run_matrix_by(choice, 0, 1, 0, 1, 3, 3, a, 9, b, 9) == VOKHSAOT_NO_KERNEL, "no kernel");
+        expect(vokhsaot_run_round_by(choice, 65.0, 0, 0, 0, a, 9, b, 9) == VOKHSAOT_VARIANCE_OUT_OF_RANGE, "no variance");
+        expect(vokhsaot_run_oval_by(choice, 0.5, 0.5, 1.0, 0.0, 1, 0, 3, a, 9, b, 9) == VOKHSAOT_SIDE_OUT_OF_RANGE, "no side");
+        expect(vokhsaot_run_matrix_by(choice, 2048, 0, 2048, 1, 3, 3, a, 9, b, 8) == VOKHSAOT_WRONG_LENGTH, "a short picture");
+    }
+    expect(memcmp(a, picture, sizeof a) == 0 && memcmp(b, hollow, sizeof b) == 0, "a refusal changes nothing");
+}
+
+/* One step by the weights of the kernel for so many steps, computed here, from one picture of 3 x 3 to another. */
+static void one_step(uint32_t choice, uint32_t steps, const uint16_t *from, uint16_t *to) {
+    uint64_t n[VOKHSAOT_KERNEL_NUMBERS];
+
+    expect(vokhsaot_kernel_matrix_by(choice, 2048, 0, 2048, steps, n, 10) == 0 && n[0] == 16384 * (uint64_t)steps,
+           "a kernel and its sum");
+    for (int32_t y = 0; y < 3; y++) {
+        for (int32_t x = 0; x < 3; x++) {
+            uint64_t sum = 0;
+            for (int32_t dy = -1; dy <= 1; dy++) {
+                for (int32_t dx = -1; dx <= 1; dx++) {
+                    uint16_t pixel = 0;
+                    expect(vokhsaot_pixel(from, 9, 3, 3, x + dx, y + dy, &pixel) == 0, "a pixel");
+                    sum += n[5 + 3 * dy + dx] * pixel;
+                }
+            }
+            to[3 * y + x] = (uint16_t)((2 * sum + n[0]) / (2 * n[0]));
+        }
+    }
+}
+
+/* Which picture of a run holds its last step: told by the call, and true of the run. */
+static void shown_pictures(void) {
+    uint16_t pictures[2][9];
+    uint32_t picture_shown = 99;
+
+    for (uint32_t steps = 1; steps <= VOKHSAOT_MOST_STEPS; steps++) {
+        expect(vokhsaot_shown(steps, &picture_shown) == 0 && picture_shown == steps % 2, "even in the first, odd in the second");
+    }
+    for (uint32_t steps = 1; steps <= 4; steps++) {
+        uint16_t alone[2][9];
+        memcpy(pictures[0], picture, sizeof picture);
+        memcpy(alone[0], picture, sizeof picture);
+        expect(vokhsaot_run_matrix(2048, 0, 2048, steps, 3, 3, pictures[0], 9, pictures[1], 9) == 0, "a run");
+        for (uint32_t step = 1; step <= steps; step++) {
+            one_step(VOKHSAOT_BINOMIAL, steps, alone[0], alone[1]);
+            memcpy(alone[0], alone[1], sizeof alone[0]);
+        }
+        expect(vokhsaot_shown(steps, &picture_shown) == 0, "shown");
+        expect(memcmp(pictures[picture_shown], alone[0], sizeof picture) == 0, "the picture shown holds the last step");
+    }
+    picture_shown = 99;
+    expect(vokhsaot_shown(0, &picture_shown) == VOKHSAOT_STEPS_OUT_OF_RANGE, "no steps");
+    expect(vokhsaot_shown(VOKHSAOT_MOST_STEPS + 1, &picture_shown) == VOKHSAOT_STEPS_OUT_OF_RANGE, "too many steps");
+    expect(vokhsaot_shown(UINT32_MAX, &picture_shown) == VOKHSAOT_STEPS_OUT_OF_RANGE, "the most steps");
+    expect(picture_shown == 99, "a refusal changes nothing");
+}
+
+static void differences(void) {
+    const uint16_t steep[4] = {1, 2, 4, 9};
+    int32_t result[4] = {0};
+    double directional[4] = {0};
+
+    expect(vokhsaot_first_x(steep, 4, 2, 2, result, 4) == 0 && result[0] == 1 && result[3] == 5, "first x");
+    expect(vokhsaot_first_y(steep, 4, 2, 2, result, 4) == 0 && result[0] == 3 && result[3] == 7, "first y");
+    expect(vokhsaot_second_x(steep, 4, 2, 2, result, 4) == 0 && result[0] == 1 && result[3] == -5, "second x");
+    expect(vokhsaot_second_y(steep, 4, 2, 2, result, 4) == 0 && result[0] == 3 && result[3] == -7, "second y");
+    expect(vokhsaot_mixed(steep, 4, 2, 2, result, 4) == 0 && result[0] == 4, "mixed");
+    expect(vokhsaot_directional(0.0, -1.0, steep, 4, 2, 2, directional, 4) == 0 && directional[3] == -7.0, "directional");
+    expect(vokhsaot_mixed(steep, 4, 2, 2, result, 3) == VOKHSAOT_WRONG_LENGTH && result[0] == 4, "a short result");
+}
+
+static void texts(void) {
+    const char *text = "J\t2048\t0\t2048\t1\t3\t3\n0\t0\t0\n0\t1600\t0\n0\t0\t0\n";
+    const char *answer = "K\t16\t1\t2\t1\t2\t4\t2\t1\t2\t1\nP\t3\t3\n100\t200\t100\n200\t400\t200\n100\t200\t100\n";
+    uint8_t *out = malloc(VOKHSAOT_ANSWER_BYTES);
+    size_t length = 0;
+
+    expect(out != NULL, "memory");
+    expect(vokhsaot_answer_text((const uint8_t *)text, strlen(text), out, VOKHSAOT_ANSWER_BYTES, &length) == 0
+               && length == strlen(answer) && memcmp(out, answer, length) == 0, "the listing");
+    expect(vokhsaot_answer_text((const uint8_t *)text, 5, out, VOKHSAOT_ANSWER_BYTES, &length) == 0 && length == 4
+               && memcmp(out, "R\t1\n", 4) == 0, "no job");
+    expect(vokhsaot_answer_text((const uint8_t *)text, 5, out, VOKHSAOT_ANSWER_BYTES - 1, &length) == VOKHSAOT_WRONG_LENGTH,
+           "a short buffer");
+    free(out);
+}
+
+static void service(void) {
+    uint64_t words[VOKHSAOT_WORDS];
+    uint16_t *store = calloc(VOKHSAOT_STORE_PIXELS, sizeof *store);
+    uint16_t lent[9] = {0};
+    uint64_t number = 99;
+    uint32_t free_buffers = 99;
+
+    expect(store != NULL, "memory");
+    expect(vokhsaot_opening(words, VOKHSAOT_WORDS - 1) == VOKHSAOT_WRONG_LENGTH, "short words are refused");
+    expect(vokhsaot_opening(words, VOKHSAOT_WORDS) == 0, "opening");
+    expect(vokhsaot_tick(words, VOKHSAOT_WORDS, store, VOKHSAOT_STORE_PIXELS, &number) == 0 && number == 0, "idle");
+    expect(vokhsaot_submit_matrix(words, VOKHSAOT_WORDS, store, VOKHSAOT_STORE_PIXELS, 4097, 0, 4096, 1, 3, 3, picture, 9, &number)
+               == VOKHSAOT_NO_KERNEL, "no kernel");
+    expect(vokhsaot_submit_matrix(words, VOKHSAOT_WORDS, store, VOKHSAOT_STORE_PIXELS, 2048, 0, 2048, 1, 3, 3, picture, 9, &number)
+               == 0 && number == 1, "submit a matrix");
+    expect(vokhsaot_submit_round(words, VOKHSAOT_WORDS, store, VOKHSAOT_STORE_PIXELS, 0.5, 1, 3, 3, picture, 9, &number) == 0
+               && number == 2, "submit a round shape");
+    expect(vokhsaot_submit_oval(words, VOKHSAOT_WORDS, store, VOKHSAOT_STORE_PIXELS, 0.5, 0.5, 1.0, 0.0, 1, 3, 3, picture, 9,
+                                &number) == 0 && number == 3, "submit an oval shape");
+    expect(vokhsaot_free_count(words, VOKHSAOT_WORDS, &free_buffers) == 0 && free_buffers == 10, "free count");
+    expect(vokhsaot_collect(words, VOKHSAOT_WORDS, store, VOKHSAOT_STORE_PIXELS, 1, lent, 9, &number) == VOKHSAOT_STEPS_ARE_LEFT,
+           "not finished");
+    for (uint64_t job = 1; job <= 3; job++) {
+        expect(vokhsaot_tick(words, VOKHSAOT_WORDS, store, VOKHSAOT_STORE_PIXELS, &number) == 0 && number == job, "tick");
+    }
+    for (uint64_t job = 1; job <= 2; job++) {
+        memset(lent, 0, sizeof lent);
+        expect(vokhsaot_collect(words, VOKHSAOT_WORDS, store, VOKHSAOT_STORE_PIXELS, job, lent, 9, &number) == 0 && number == job,
+               "collect");
+        expect(memcmp(lent, hollow, sizeof lent) == 0, "the picture, by the smallest choice");
+    }
+    expect(vokhsaot_withdraw(words, VOKHSAOT_WORDS, 3, &number) == 0 && number == 3, "withdraw");
+    expect(vokhsaot_withdraw(words, VOKHSAOT_WORDS, 3, &number) == VOKHSAOT_NO_SUCH_JOB, "withdraw again");
+    expect(vokhsaot_free_count(words, VOKHSAOT_WORDS, &free_buffers) == 0 && free_buffers == 16, "all free");
+    free(store);
+}
+
+/* What the record holds after a few calls, read by the layout's names. */
+static void layout(void) {
+    uint64_t words[VOKHSAOT_WORDS], number = 0;
+    uint16_t *store = calloc(VOKHSAOT_STORE_PIXELS, sizeof *store);
+    const uint64_t *seat = words + VOKHSAOT_SEAT_WORDS;
+
+    expect(store != NULL, "memory");
+    expect(vokhsaot_opening(words, VOKHSAOT_WORDS) == 0, "opening");
+    expect(words[VOKHSAOT_WORD_LAST_NUMBER] == 0 && words[VOKHSAOT_WORD_LAST_FILLED] == 7
+               && words[VOKHSAOT_WORD_LAST_SERVED] == 7, "an opening's last words");
+    expect(vokhsaot_submit_matrix(words, VOKHSAOT_WORDS, store, VOKHSAOT_STORE_PIXELS, 2048, 0, 2048, 1, 3, 3, picture, 9, &number)
+               == 0, "the first job");
+    expect(vokhsaot_submit_matrix(words, VOKHSAOT_WORDS, store, VOKHSAOT_STORE_PIXELS, 5000, -900, 1000, 5, 9, 1, picture, 9,
+                                  &number) == 0, "the second job");
+    for (int ticks = 0; ticks < 2; ticks++) {
+        expect(vokhsaot_tick(words, VOKHSAOT_WORDS, store, VOKHSAOT_STORE_PIXELS, &number) == 0, "tick");
+    }
+    expect(seat[VOKHSAOT_SEAT_JOB] == 2 && vokhsaot_signed_word(seat[VOKHSAOT_SEAT_XX]) == 5000
+               && vokhsaot_signed_word(seat[VOKHSAOT_SEAT_XY]) == -900 && vokhsaot_signed_word(seat[VOKHSAOT_SEAT_YY]) == 1000,
+           "number and covariance of a seat");
+    expect(seat[VOKHSAOT_SEAT_STEPS] == 5 && seat[VOKHSAOT_SEAT_STEPS_LEFT] == 4 && seat[VOKHSAOT_SEAT_WIDTH] == 9
+               && seat[VOKHSAOT_SEAT_HEIGHT] == 1, "steps and sides of a seat");
+    expect(words[VOKHSAOT_WORD_LAST_NUMBER] == 2 && words[VOKHSAOT_WORD_LAST_FILLED] == 1
+               && words[VOKHSAOT_WORD_LAST_SERVED] == 1, "the last words");
+
+    expect(vokhsaot_seat_of(words, VOKHSAOT_WORDS, 1) == 0 && vokhsaot_seat_of(words, VOKHSAOT_WORDS, 2) == 1, "seats of jobs");
+    expect(vokhsaot_seat_of(words, VOKHSAOT_WORDS, 3) == VOKHSAOT_SEATS, "no seat of another job");
+    expect(vokhsaot_seat_of(words, VOKHSAOT_WORDS, 0) == VOKHSAOT_SEATS, "0 is no job, and empty seats are none of it");
+    expect(vokhsaot_seat_of(words, VOKHSAOT_WORDS - 1, 1) == VOKHSAOT_SEATS && vokhsaot_seat_of(words, 0, 1) == VOKHSAOT_SEATS,
+           "short words are no record");
+    words[7 * VOKHSAOT_SEAT_WORDS] = UINT64_MAX;
+    expect(vokhsaot_seat_of(words, VOKHSAOT_WORDS, UINT64_MAX) == 7, "the last seat, the largest number");
+    free(store);
+}
+
+/* A new service: writes its record to words, and returns its store. */
+static uint16_t *opened(uint64_t *words) {
+    uint16_t *store = calloc(VOKHSAOT_STORE_PIXELS, sizeof *store);
+
+    expect(store != NULL, "memory");
+    expect(vokhsaot_opening(words, VOKHSAOT_WORDS) == 0, "opening");
+    return store;
+}
+
+/* The number of a new job with case a's picture and so many steps. What was lent is written over at once. */
+static uint64_t submitted(uint64_t *words, uint16_t *store, uint32_t steps) {
+    uint16_t lent[9];
+    uint64_t number = 0;
+
+    memcpy(lent, picture, sizeof lent);
+    expect(vokhsaot_submit_matrix(words, VOKHSAOT_WORDS, store, VOKHSAOT_STORE_PIXELS, 2048, 0, 2048, steps, 3, 3, lent, 9,
+                                  &number) == 0, "submit");
+    memset(lent, 0xAB, sizeof lent);
+    return number;
+}
+
+static uint64_t ticked(uint64_t *words, uint16_t *store) {
+    uint64_t number = 0;
+
+    expect(vokhsaot_tick(words, VOKHSAOT_WORDS, store, VOKHSAOT_STORE_PIXELS, &number) == 0, "tick");
+    return number;
+}
+
+static void withdrawn(uint64_t *words, uint64_t job) {
+    uint64_t number = 0;
+
+    expect(vokhsaot_withdraw(words, VOKHSAOT_WORDS, job, &number) == 0 && number == job, "withdraw");
+}
+
+/* A seat that got empty is filled again when its turn comes round, and numbers go on. */
+static void seats_in_turn(void) {
+    static const size_t seats[9] = {0, 1, 2, 3, 4, 5, 6, 7, 1};
+    uint64_t words[VOKHSAOT_WORDS];
+    uint16_t *store = opened(words);
+
+    for (uint64_t job = 1; job <= 9; job++) {
+        expect(submitted(words, store, 1) == job && vokhsaot_seat_of(words, VOKHSAOT_WORDS, job) == seats[job - 1],
+               "the first empty seat after the one last filled");
+        if (job == 3) {
+            withdrawn(words, 2);
+        }
+    }
+    expect(vokhsaot_seat_of(words, VOKHSAOT_WORDS, 2) == VOKHSAOT_SEATS, "the job withdrawn");
+    free(store);
+}
+
+/* The current picture stands in the first buffer of its seat after an even number of steps, else in the second. */
+static void pictures_in_the_store(void) {
+    uint64_t words[VOKHSAOT_WORDS];
+    uint16_t *store = opened(words), expected[2][9];
+    const uint16_t *buffers = store + 2 * 1 * VOKHSAOT_BUFFER_PIXELS;
+
+    submitted(words, store, 64);
+    memcpy(expected[0], picture, sizeof picture);
+    expect(submitted(words, store, 3) == 2 && memcmp(buffers, picture, sizeof picture) == 0, "the picture that was lent");
+    for (size_t done = 1; done <= 3; done++) {
+        one_step(VOKHSAOT_SMALLEST, 3, expected[(done + 1) % 2], expected[done % 2]);
+        expect(ticked(words, store) == 1 && ticked(words, store) == 2, "turns");
+        expect(memcmp(buffers + done % 2 * VOKHSAOT_BUFFER_PIXELS, expected[done % 2], sizeof picture) == 0, "the last step");
+    }
+    free(store);
+}
+
+/* All seats are filled, and each job but the last is replaced once it is served: the last one still gets every eighth tick. */
+static void the_wait(void) {
+    uint64_t words[VOKHSAOT_WORDS];
+    uint16_t *store = opened(words);
+    const uint64_t *left = words + 7 * VOKHSAOT_SEAT_WORDS + VOKHSAOT_SEAT_STEPS_LEFT;
+
+    for (uint64_t job = 1; job <= VOKHSAOT_SEATS; job++) {
+        expect(submitted(words, store, 3) == job, "all seats");
+    }
+    for (int ticks = 1; ticks <= 8 * 3; ticks++) {
+        uint64_t served;
+        expect(words[7 * VOKHSAOT_SEAT_WORDS] == 8 && *left > 0, "not finished before");
+        served = ticked(words, store);
+        if (served != 8) {
+            withdrawn(words, served);
+            submitted(words, store, 64);
+        }
+    }
+    expect(words[7 * VOKHSAOT_SEAT_WORDS] == 8 && *left == 0, "finished after 8 x 3 ticks");
+    free(store);
+}
+
+/* Whether a record is in order with one of its words changed. */
+static int in_order_with(const uint64_t *words, size_t place, uint64_t word) {
+    uint64_t changed[VOKHSAOT_WORDS];
+    uint32_t count = 99, code;
+
+    memcpy(changed, words, sizeof changed);
+    changed[place] = word;
+    code = vokhsaot_free_count(changed, VOKHSAOT_WORDS, &count);
+    expect(code == 0 ? count == 12 : code == VOKHSAOT_RECORD_OUT_OF_ORDER && count == 99, "in order or not");
+    return code == 0;
+}
+
+/* Each condition of a record in order, at its bounds: with 5 steps, 4 of them left, in seat 0, and 9 x 1 pixels in seat 1. */
+static void records_in_order(void) {
+    enum { SECOND = VOKHSAOT_SEAT_WORDS };
+    static const struct {
+        size_t place;
+        uint64_t in_order, not_in_order;
+    } bounds[] = {
+        {VOKHSAOT_SEAT_STEPS, 4, 3}, {VOKHSAOT_SEAT_STEPS, 64, 65},
+        {VOKHSAOT_SEAT_STEPS_LEFT, 0, 6}, {VOKHSAOT_SEAT_STEPS_LEFT, 5, UINT32_MAX},
+        {VOKHSAOT_SEAT_WIDTH, 1, 0}, {VOKHSAOT_SEAT_HEIGHT, 1, 0}, {VOKHSAOT_SEAT_WIDTH, 341, 342},
+        {SECOND + VOKHSAOT_SEAT_WIDTH, 1024, 1025}, {SECOND + VOKHSAOT_SEAT_HEIGHT, 113, 114},
+        {VOKHSAOT_SEAT_XX, 900, 899}, {VOKHSAOT_SEAT_XX, 4096 * 5, 4096 * 5 + 1}, {VOKHSAOT_SEAT_YY, 900, 0xFFFFFFFF},
+        {VOKHSAOT_SEAT_XY, 2048, 2049}, {VOKHSAOT_SEAT_XY, 0xFFFFF800, 0xFFFFF7FF},
+        {VOKHSAOT_SEAT_XY, 0xFFFFFFFF, UINT64_MAX},
+        {VOKHSAOT_SEAT_JOB, 1, 0}, {SECOND + VOKHSAOT_SEAT_JOB, 2, 1}, {SECOND + VOKHSAOT_SEAT_JOB, 2, 3},
+        {VOKHSAOT_WORD_LAST_NUMBER, 2, 1}, {VOKHSAOT_WORD_LAST_NUMBER, UINT64_MAX, 0},
+        {VOKHSAOT_WORD_LAST_FILLED, 7, 8}, {VOKHSAOT_WORD_LAST_SERVED, 7, 8},
+    };
+    uint64_t words[VOKHSAOT_WORDS], number;
+    uint16_t *store = opened(words);
+
+    expect(vokhsaot_submit_matrix(words, VOKHSAOT_WORDS, store, VOKHSAOT_STORE_PIXELS, 2048, -900, 2048, 5, 3, 3, picture, 9,
+                                  &number) == 0, "the first job");
+    expect(vokhsaot_submit_matrix(words, VOKHSAOT_WORDS, store, VOKHSAOT_STORE_PIXELS, 2048, 0, 2048, 1, 9, 1, picture, 9, &number)
+               == 0, "the second job");
+    expect(ticked(words, store) == 1, "a step of the first");
+    for (size_t i = 0; i < sizeof bounds / sizeof *bounds; i++) {
+        expect(in_order_with(words, bounds[i].place, bounds[i].in_order), "a word within its bounds");
+        expect(!in_order_with(words, bounds[i].place, bounds[i].not_in_order), "a word out of its bounds");
+    }
+    for (size_t place = 0; place < VOKHSAOT_WORDS; place++) {
+        expect(in_order_with(words, place, words[place]), "no word changed");
+        expect(place % 8 == 0 || !in_order_with(words, place, words[place] + ((uint64_t)1 << 32)), "a word of more than 32 bits");
+        expect(place / 8 < 2 || place / 8 > 7 || !in_order_with(words, place, 1), "an empty seat that is not all 0");
+    }
+    free(store);
+}
+
+static void signed_words(void) {
+    expect(vokhsaot_signed_word(0) == 0 && vokhsaot_signed_word(1) == 1 && vokhsaot_signed_word(INT32_MAX) == INT32_MAX,
+           "words that are not negative");
+    expect(vokhsaot_signed_word(0xFFFFFFFFu) == -1 && vokhsaot_signed_word(0x80000000u) == INT32_MIN
+               && vokhsaot_signed_word(0x80000001u) == -INT32_MAX, "negative words");
+    expect(vokhsaot_signed_word(UINT64_MAX - 899) == -900 && vokhsaot_signed_word((uint64_t)5 << 32) == 0, "the low 32 bits");
+}
+
+static void sentences(void) {
+    expect(strcmp(vokhsaot_refusal_text(0), "Not refused.") == 0, "the sentence of 0");
+    for (uint32_t number = 1; number <= VOKHSAOT_NUMBERS_USED_UP; number++) {
+        for (uint32_t other = 0; other <= VOKHSAOT_NUMBERS_USED_UP + 1; other++) {
+            expect((strcmp(vokhsaot_refusal_text(number), vokhsaot_refusal_text(other)) == 0) == (number == other),
+                   "a sentence for each refusal");
+        }
+    }
+    expect(strcmp(vokhsaot_refusal_text(14), "Not the number of a refusal.") == 0, "the sentence of 14");
+    expect(strcmp(vokhsaot_refusal_text(UINT32_MAX), "Not the number of a refusal.") == 0, "the sentence of the largest number");
+}
+
+int main(void) {
+    shapes();
+    kernels();
+    unequal_kernels();
+    refused_kernels();
+    runs();
+    refused_runs();
+    shown_pictures();
+    differences();
+    texts();
+    service();
+    layout();
+    seats_in_turn();
+    pictures_in_the_store();
+    the_wait();
+    records_in_order();
+    signed_words();
+    sentences();
+    return 0;
+}

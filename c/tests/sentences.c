@@ -1,0 +1,11 @@
+/* Prints the sentence of each refusal, a line each: run.sh compares them with those of the Rust crate. */
+#include "vokhsaot.h"
+
+#include <stdio.h>
+
+int main(void) {
+    for (uint32_t number = 1; number <= VOKHSAOT_NUMBERS_USED_UP; number++) {
+        puts(vokhsaot_refusal_text(number));
+    }
+    return 0;
+}
