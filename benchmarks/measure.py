@@ -18,7 +18,7 @@ except ImportError:
 
 ROUNDS = 31
 SHAPE = (9000, 2001, 7000)
-# The choices as the exported calls number them: a caller who names none gets the first, the service goes by the second.
+# The choices as the exported calls number them: a caller who names none gets the first; the jobs whose ticks are measured name the second.
 BINOMIAL, SMALLEST = 0, 1
 CHOICES = {BINOMIAL: "no choice named", SMALLEST: "the choice \"smallest\""}
 FORMS = [
@@ -227,7 +227,7 @@ def tick_time(library, jobs, image):
 
 
 def service(library, proved, older):
-    """Ticks of full-size jobs beside the bare step, which is a step of a run of 64 by the service's choice, and beside those of another
+    """Ticks of full-size jobs beside the bare step, which is a step of a run of 64 by the jobs' choice, and beside those of another
     version of the library where there is one."""
     image = numpy.random.default_rng(3).integers(0, 65536, (32, 32), dtype=numpy.uint16)
     other = numpy.zeros_like(image)

@@ -196,17 +196,35 @@ uint32_t kernels(uint32_t choice, const int32_t *shape, uint32_t steps, size_t r
     return code;
 }
 
-/* Ticks until idle of a service with so many equal jobs. The jobs are submitted and withdrawn outside the timed part. */
-static uint64_t words[VOKHSAOT_WORDS];
+/*
+ * Ticks until idle of a service with so many equal jobs. The jobs are submitted and withdrawn outside the timed part. They go by the
+ * smallest choice, so that they compare with a version from before 0.4.0, whose jobs know no other and whose record has fewer words.
+ */
+#ifdef BEFORE_CHANGE_OVER
+enum { WORDS = VOKHSAOT_OLD_WORDS };
+uint32_t submit_smallest(uint64_t *words, size_t words_len, uint16_t *store, size_t store_len, int32_t xx, int32_t xy, int32_t yy,
+                         uint32_t steps, uint32_t width, uint32_t height, const uint16_t *pixels, size_t pixels_len, uint64_t *number)
+    __asm__("vokhsaot_submit_matrix");
+#else
+enum { WORDS = VOKHSAOT_WORDS };
+static uint32_t submit_smallest(uint64_t *words, size_t words_len, uint16_t *store, size_t store_len, int32_t xx, int32_t xy, int32_t yy,
+                                uint32_t steps, uint32_t width, uint32_t height, const uint16_t *pixels, size_t pixels_len,
+                                uint64_t *number)
+{
+    return vokhsaot_submit_matrix_by(words, words_len, store, store_len, VOKHSAOT_SMALLEST, xx, xy, yy, steps, width, height, pixels,
+                                     pixels_len, number);
+}
+#endif
+static uint64_t words[WORDS];
 static uint16_t store[VOKHSAOT_STORE_PIXELS];
 
 uint32_t fill(uint32_t jobs, const int32_t *shape, uint32_t steps, uint32_t width, uint32_t height, const uint16_t *pixels)
 {
     uint64_t number;
-    uint32_t code = vokhsaot_opening(words, VOKHSAOT_WORDS);
+    uint32_t code = vokhsaot_opening(words, WORDS);
     for (uint32_t job = 0; job < jobs; job++)
-        code |= vokhsaot_submit_matrix(words, VOKHSAOT_WORDS, store, VOKHSAOT_STORE_PIXELS, shape[0], shape[1], shape[2], steps,
-                                       width, height, pixels, (size_t)width * height, &number);
+        code |= submit_smallest(words, WORDS, store, VOKHSAOT_STORE_PIXELS, shape[0], shape[1], shape[2], steps, width, height, pixels,
+                                (size_t)width * height, &number);
     return code;
 }
 
@@ -214,7 +232,7 @@ uint32_t ticks(void)
 {
     uint64_t number = 1;
     uint32_t count = 0;
-    while (vokhsaot_tick(words, VOKHSAOT_WORDS, store, VOKHSAOT_STORE_PIXELS, &number) == 0 && number != 0)
+    while (vokhsaot_tick(words, WORDS, store, VOKHSAOT_STORE_PIXELS, &number) == 0 && number != 0)
         count++;
     return count;
 }

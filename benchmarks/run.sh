@@ -25,5 +25,8 @@ own=$root/target/staticlib/libcapi.a
 build vector "$own"
 build scalar "$own" -fno-tree-vectorize
 rm -f "$work/other.so"
-[ $# -eq 0 ] || build other "$1"
+if [ $# -gt 0 ]; then
+    # a version from before 0.4.0 has a service of other words and names
+    if nm "$1" | grep -q ' T vokhsaot_submit_matrix_by$'; then build other "$1"; else build other "$1" -DBEFORE_CHANGE_OVER; fi
+fi
 exec /usr/bin/python3 "$here/measure.py" "$work" "$root/target/bin/bench"

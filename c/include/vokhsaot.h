@@ -3,7 +3,7 @@
  *
  * Link the shared library with "pkg-config --cflags --libs vokhsaot"; or the static one, which is then inside the program, with
  * "pkg-config --cflags --libs vokhsaot-static". With CMake it is find_package(vokhsaot) and the target vokhsaot::shared or
- * vokhsaot::static. c/examples of the repository has two small programs. What is promised stands in docs/REFERENCE.md, sentence
+ * vokhsaot::static. c/examples of the repository has small programs. What is promised stands in docs/REFERENCE.md, sentence
  * by sentence, each with an id such as V15; docs/CLAIMS.md leads from there to the proofs.
  *
  * ANSWERS. A call returns 0, or the number of its refusal. A call makes its checks in the order in which its comment lists
@@ -43,9 +43,9 @@ extern "C" {
 
 /* ---- Version. The library has the soname libvokhsaot.so.MAJOR.MINOR: with another of these, compile again. */
 
-#define VOKHSAOT_VERSION "0.3.0"
+#define VOKHSAOT_VERSION "0.4.0"
 #define VOKHSAOT_VERSION_MAJOR 0
-#define VOKHSAOT_VERSION_MINOR 3
+#define VOKHSAOT_VERSION_MINOR 4
 #define VOKHSAOT_VERSION_PATCH 0
 
 /* ---- Limits. Whole numbers, for #if too. */
@@ -69,7 +69,9 @@ extern "C" {
 /* Pixels of the store: all its buffers. */
 #define VOKHSAOT_STORE_PIXELS 16384
 /* Words of the service's record. */
-#define VOKHSAOT_WORDS 67
+#define VOKHSAOT_WORDS 75
+/* Words of a record from before 0.4.0, which vokhsaot_change_over() reads. */
+#define VOKHSAOT_OLD_WORDS 67
 /* Entries of a covariance matrix: xx, xy, yy. */
 #define VOKHSAOT_COVARIANCE_ENTRIES 3
 /* Numbers of a kernel: the sum and nine weights. */
@@ -84,7 +86,10 @@ extern "C" {
 enum {
     /* The text is no job. No call returns it: it stands in the text that vokhsaot_answer_text() writes. */
     VOKHSAOT_TEXT_IS_NO_JOB = 1,
-    /* The words are no record in order, or not VOKHSAOT_WORDS of them, or the store's length is not VOKHSAOT_STORE_PIXELS. */
+    /*
+     * The words are no record in order, or not VOKHSAOT_WORDS of them, or the store's length is not VOKHSAOT_STORE_PIXELS. Of
+     * vokhsaot_change_over(): the old words are no record in order by the old rule, or not VOKHSAOT_OLD_WORDS of them.
+     */
     VOKHSAOT_RECORD_OUT_OF_ORDER = 2,
     /* A variance of a round or an oval shape is not a number, or lies outside 0 to VOKHSAOT_LARGEST_VARIANCE. */
     VOKHSAOT_VARIANCE_OUT_OF_RANGE = 3,
@@ -165,8 +170,9 @@ static inline const char *vokhsaot_refusal_text(uint32_t number) {
  * A kernel is nine weights of a pixel and its eight neighbours, which one step averages by. It depends on the shape and on the
  * steps.
  *
- * The choice of a kernel is the first parameter of every call whose name ends in _by. The weights' formulas leave one number f
- * free between two bounds, the larger of |xy| and xx + yy - M, and the smaller of xx and yy, where M is 4096 x steps.
+ * The choice of a kernel is a parameter of every call whose name ends in _by: the first one, and in the submits the one right
+ * after the store. The weights' formulas leave one number f free between two bounds, the larger of |xy| and xx + yy - M, and the
+ * smaller of xx and yy, where M is 4096 x steps.
  * VOKHSAOT_BINOMIAL takes the largest of |xy|, xx + yy - M and half of (xx + yy + max(xx, yy) - M) rounded up, but never more
  * than the upper bound, so that the centre has at least twice the weight of each of its four nearest neighbours wherever some f
  * gives it that. VOKHSAOT_SMALLEST takes the lower bound; such a kernel can have the weight 0 in the centre. Kernels exist for
@@ -175,7 +181,8 @@ static inline const char *vokhsaot_refusal_text(uint32_t number) {
  * The calls of the same names without _by take no choice and go by VOKHSAOT_BINOMIAL. They are defined in this header, over the
  * calls with one; the library does not export them. An object that was compiled with the header from before the choice
  * therefore does not link, where it would otherwise pass its arguments one place off. Compiled again, its source as it is goes
- * by VOKHSAOT_BINOMIAL.
+ * by VOKHSAOT_BINOMIAL. Kernels and runs have had the choice since 0.2.0, submits since 0.4.0; until then all jobs went by
+ * VOKHSAOT_SMALLEST, which a source that must keep a job's pixels as they were has to name now.
  */
 enum { VOKHSAOT_BINOMIAL = 0, VOKHSAOT_SMALLEST = 1 };
 
@@ -449,15 +456,22 @@ uint32_t vokhsaot_answer_text(const uint8_t *text, size_t text_len, uint8_t *out
  * always the two together. Records and stores may be as many as wanted; they know nothing of each other.
  *
  * No call trusts the words: what is not a record in order is refused with 2, as is a length other than VOKHSAOT_WORDS. Only the
- * opening, which would write a record there, refuses that with 9. A record that was changed by others and is in order is served.
+ * opening and the change-over, which would write a record there, refuse that with 9. A record that was changed by others and is
+ * in order is served.
  *
- * A record is in order exactly where all of this holds (V3 to V8, W2):
+ * A unit that runs with a release before 0.4.0 has a record of VOKHSAOT_OLD_WORDS words, which these calls refuse with 2. It
+ * goes on through vokhsaot_change_over(), whose comment says how it is done.
+ *
+ * A record is in order exactly where all of this holds (V3 to V8, W2, S3.1, S3.2):
  *   - Every word but the job numbers and the last number given fits 32 bits. xx, xy and yy stand as their two's complement in 32
  *     bits: -1 is 0xFFFFFFFF. A negative number that was extended to 64 bits with its sign does not fit.
  *   - Every empty seat, one whose job number is 0, is all 0.
  *   - Every filled seat has steps of 1 to 64, steps left of at most its steps, a width and a height of 1 to 1024, and at most
  *     1024 pixels (width x height).
  *   - Every filled seat has a kernel: |xy| is at most the smaller of xx and yy, and the larger of them at most 4096 x steps.
+ *   - Every filled seat has an f between the two bounds with which no weight of its kernel is negative: at least the larger of
+ *     |xy| and xx + yy - 4096 x steps, and at most the smaller of xx and yy. It may be any such f, not only one of the two
+ *     choices'.
  *   - Every filled seat has a job number from 1 to the last number given, and no other seat has the same.
  *   - The seat last filled and the seat last served are 0 to 7.
  *
@@ -469,7 +483,7 @@ uint32_t vokhsaot_answer_text(const uint8_t *text, size_t text_len, uint8_t *out
  * The record's layout. Seat i has VOKHSAOT_SEAT_WORDS words from words[i * VOKHSAOT_SEAT_WORDS] on, in this order. The steps
  * left of its job, say, are words[i * VOKHSAOT_SEAT_WORDS + VOKHSAOT_SEAT_STEPS_LEFT].
  */
-#define VOKHSAOT_SEAT_WORDS 8
+#define VOKHSAOT_SEAT_WORDS 9
 /* The job's number, 64 bits; 0 where the seat is empty. */
 #define VOKHSAOT_SEAT_JOB 0
 /* The covariance of the job's shape: read these three by vokhsaot_signed_word(). */
@@ -482,11 +496,18 @@ uint32_t vokhsaot_answer_text(const uint8_t *text, size_t text_len, uint8_t *out
 /* The sides of the job's picture: what a collect is lent has width x height pixels. */
 #define VOKHSAOT_SEAT_WIDTH 6
 #define VOKHSAOT_SEAT_HEIGHT 7
+/* The number f of the job's kernel, by which its ticks go; never negative. The choice of its submit gave it. */
+#define VOKHSAOT_SEAT_F 8
 /* After the seats, by their place in words: the last number given, 64 bits; 0 where none was. */
-#define VOKHSAOT_WORD_LAST_NUMBER 64
+#define VOKHSAOT_WORD_LAST_NUMBER 72
 /* The seat last filled and the seat last served; both are 7 at the opening. */
-#define VOKHSAOT_WORD_LAST_FILLED 65
-#define VOKHSAOT_WORD_LAST_SERVED 66
+#define VOKHSAOT_WORD_LAST_FILLED 73
+#define VOKHSAOT_WORD_LAST_SERVED 74
+/*
+ * A record from before 0.4.0 has so many words a seat: the same without the last, f. The last number given, the seat last filled
+ * and the seat last served follow as its words 64, 65 and 66.
+ */
+#define VOKHSAOT_OLD_SEAT_WORDS 8
 
 /*
  * The seat that has this job number, 0 to 7, or VOKHSAOT_SEATS where none has: also where the job is 0, which is the number of
@@ -522,10 +543,10 @@ static inline int32_t vokhsaot_signed_word(uint64_t word) {
 uint32_t vokhsaot_opening(uint64_t *words, size_t words_len);
 
 /*
- * Whole numbers. Submit of a job with a matrix: copies the picture, of width x height pixels, into the store, so that pixels
- * may be reused at once. The job gets the first empty seat, counted on cyclically (0 comes after 7) from the one after the seat
- * last filled, with all its steps left. Writes the new job's number to *number: the submits accepted since the opening get 1,
- * 2, 3 and so on. The steps go by VOKHSAOT_SMALLEST, as those of all jobs.
+ * Whole numbers. Submit of a job with a matrix, by a choice: copies the picture, of width x height pixels, into the store, so
+ * that pixels may be reused at once. The job gets the first empty seat, counted on cyclically (0 comes after 7) from the one
+ * after the seat last filled, with all its steps left and the f of the choice, by which its steps go. Writes the new job's
+ * number to *number: the submits accepted since the opening get 1, 2, 3 and so on, also across a change-over.
  * Refusals:
  *   2  the words are no record in order, or store_len is not VOKHSAOT_STORE_PIXELS
  *   5  steps are not 1 to 64
@@ -537,16 +558,16 @@ uint32_t vokhsaot_opening(uint64_t *words, size_t words_len);
  *   12 all eight seats have a job
  *   13 the last number given is 2^64 - 1
  */
-uint32_t vokhsaot_submit_matrix(uint64_t *words, size_t words_len, uint16_t *store, size_t store_len, int32_t xx, int32_t xy,
-                                int32_t yy, uint32_t steps, uint32_t width, uint32_t height, const uint16_t *pixels,
-                                size_t pixels_len, uint64_t *number);
+uint32_t vokhsaot_submit_matrix_by(uint64_t *words, size_t words_len, uint16_t *store, size_t store_len, uint32_t choice,
+                                   int32_t xx, int32_t xy, int32_t yy, uint32_t steps, uint32_t width, uint32_t height,
+                                   const uint16_t *pixels, size_t pixels_len, uint64_t *number);
 
 /*
- * Floats. Submit of a job with a round shape: copies the picture, of width x height pixels, into the store, so that pixels may be
- * reused at once. The job gets the first empty seat, counted on cyclically (0 comes after 7) from the one after the seat last
- * filled, with all its steps left. Writes the new job's number to *number: the submits accepted since the opening get 1, 2, 3
- * and so on. The covariance is the one that vokhsaot_covariance_round() writes. The steps go by VOKHSAOT_SMALLEST, as those of
- * all jobs.
+ * Floats. Submit of a job with a round shape, by a choice: copies the picture, of width x height pixels, into the store, so that
+ * pixels may be reused at once. The job gets the first empty seat, counted on cyclically (0 comes after 7) from the one after
+ * the seat last filled, with all its steps left and the f of the choice, by which its steps go. Writes the new job's number to
+ * *number: the submits accepted since the opening get 1, 2, 3 and so on, also across a change-over. The covariance is the one
+ * that vokhsaot_covariance_round() writes.
  * Refusals:
  *   2  the words are no record in order, or store_len is not VOKHSAOT_STORE_PIXELS
  *   3  variance is not a number or lies outside 0 to 64
@@ -558,16 +579,16 @@ uint32_t vokhsaot_submit_matrix(uint64_t *words, size_t words_len, uint16_t *sto
  *   12 all eight seats have a job
  *   13 the last number given is 2^64 - 1
  */
-uint32_t vokhsaot_submit_round(uint64_t *words, size_t words_len, uint16_t *store, size_t store_len, double variance,
-                               uint32_t steps, uint32_t width, uint32_t height, const uint16_t *pixels, size_t pixels_len,
-                               uint64_t *number);
+uint32_t vokhsaot_submit_round_by(uint64_t *words, size_t words_len, uint16_t *store, size_t store_len, uint32_t choice,
+                                  double variance, uint32_t steps, uint32_t width, uint32_t height, const uint16_t *pixels,
+                                  size_t pixels_len, uint64_t *number);
 
 /*
- * Floats. Submit of a job with an oval shape: copies the picture, of width x height pixels, into the store, so that pixels may be
- * reused at once. The job gets the first empty seat, counted on cyclically (0 comes after 7) from the one after the seat last
- * filled, with all its steps left. Writes the new job's number to *number: the submits accepted since the opening get 1, 2, 3
- * and so on. The covariance is the one that vokhsaot_covariance_oval() writes. The steps go by VOKHSAOT_SMALLEST, as those of
- * all jobs.
+ * Floats. Submit of a job with an oval shape, by a choice: copies the picture, of width x height pixels, into the store, so that
+ * pixels may be reused at once. The job gets the first empty seat, counted on cyclically (0 comes after 7) from the one after
+ * the seat last filled, with all its steps left and the f of the choice, by which its steps go. Writes the new job's number to
+ * *number: the submits accepted since the opening get 1, 2, 3 and so on, also across a change-over. The covariance is the one
+ * that vokhsaot_covariance_oval() writes.
  * Refusals:
  *   2  the words are no record in order, or store_len is not VOKHSAOT_STORE_PIXELS
  *   3  long_variance or short_variance is not a number or lies outside 0 to 64
@@ -582,15 +603,49 @@ uint32_t vokhsaot_submit_round(uint64_t *words, size_t words_len, uint16_t *stor
  *   12 all eight seats have a job
  *   13 the last number given is 2^64 - 1
  */
-uint32_t vokhsaot_submit_oval(uint64_t *words, size_t words_len, uint16_t *store, size_t store_len, double long_variance,
-                              double short_variance, double cosine, double sine, uint32_t steps, uint32_t width,
-                              uint32_t height, const uint16_t *pixels, size_t pixels_len, uint64_t *number);
+uint32_t vokhsaot_submit_oval_by(uint64_t *words, size_t words_len, uint16_t *store, size_t store_len, uint32_t choice,
+                                 double long_variance, double short_variance, double cosine, double sine, uint32_t steps,
+                                 uint32_t width, uint32_t height, const uint16_t *pixels, size_t pixels_len, uint64_t *number);
 
 /*
- * Whole numbers. Tick: does one step of one job, and writes the job's number to *number. The turn is that of the first seat with
- * steps left, counted on cyclically (0 comes after 7) from the one after the seat last served. Where no job has steps left it
- * writes 0, and then nothing else changes. The wait: a job with r steps left is finished after at most 8 x r more ticks,
- * whatever other jobs come and go, unless it is withdrawn.
+ * Whole numbers. vokhsaot_submit_matrix_by() by VOKHSAOT_BINOMIAL: does the same, and has the same refusals 2, 5, 6, 9, 10, 11,
+ * 12, 13.
+ */
+static inline uint32_t vokhsaot_submit_matrix(uint64_t *words, size_t words_len, uint16_t *store, size_t store_len, int32_t xx,
+                                              int32_t xy, int32_t yy, uint32_t steps, uint32_t width, uint32_t height,
+                                              const uint16_t *pixels, size_t pixels_len, uint64_t *number) {
+    return vokhsaot_submit_matrix_by(words, words_len, store, store_len, VOKHSAOT_BINOMIAL, xx, xy, yy, steps, width, height,
+                                     pixels, pixels_len, number);
+}
+
+/*
+ * Floats. vokhsaot_submit_round_by() by VOKHSAOT_BINOMIAL: does the same, and has the same refusals 2, 3, 5, 6, 9, 10, 11, 12,
+ * 13.
+ */
+static inline uint32_t vokhsaot_submit_round(uint64_t *words, size_t words_len, uint16_t *store, size_t store_len,
+                                             double variance, uint32_t steps, uint32_t width, uint32_t height,
+                                             const uint16_t *pixels, size_t pixels_len, uint64_t *number) {
+    return vokhsaot_submit_round_by(words, words_len, store, store_len, VOKHSAOT_BINOMIAL, variance, steps, width, height, pixels,
+                                    pixels_len, number);
+}
+
+/*
+ * Floats. vokhsaot_submit_oval_by() by VOKHSAOT_BINOMIAL: does the same, and has the same refusals 2, 3, 4, 5, 6, 9, 10, 11, 12,
+ * 13.
+ */
+static inline uint32_t vokhsaot_submit_oval(uint64_t *words, size_t words_len, uint16_t *store, size_t store_len,
+                                            double long_variance, double short_variance, double cosine, double sine,
+                                            uint32_t steps, uint32_t width, uint32_t height, const uint16_t *pixels,
+                                            size_t pixels_len, uint64_t *number) {
+    return vokhsaot_submit_oval_by(words, words_len, store, store_len, VOKHSAOT_BINOMIAL, long_variance, short_variance, cosine,
+                                   sine, steps, width, height, pixels, pixels_len, number);
+}
+
+/*
+ * Whole numbers. Tick: does one step of one job, by the f of its seat, and writes the job's number to *number. The turn is that
+ * of the first seat with steps left, counted on cyclically (0 comes after 7) from the one after the seat last served. Where no
+ * job has steps left it writes 0, and then nothing else changes. The wait: a job with r steps left is finished after at most
+ * 8 x r more ticks, whatever other jobs come and go, unless it is withdrawn.
  * Refusals:
  *   2  the words are no record in order, or store_len is not VOKHSAOT_STORE_PIXELS
  */
@@ -624,6 +679,41 @@ uint32_t vokhsaot_withdraw(uint64_t *words, size_t words_len, uint64_t job, uint
  *   2  the words are no record in order
  */
 uint32_t vokhsaot_free_count(const uint64_t *words, size_t words_len, uint32_t *count);
+
+/*
+ * Whole numbers. Change-over of a running unit from a release before 0.4.0: reads its record, old_words, of VOKHSAOT_OLD_WORDS
+ * entries, and writes the record with which this release goes on to words, of VOKHSAOT_WORDS entries, whatever they hold. Every
+ * field is kept: each job has its seat, number, shape, steps, steps left and sides, and the last number given, the seat last
+ * filled and the seat last served are the same. Each filled seat gets the smallest f of its shape and steps, which its job went
+ * by before, and each empty one 0. The store is not lent: it stays, as it is, the store of the new record.
+ *
+ * So the jobs finish with the pixels that they would have had, turns and job numbers carry on, and the wait counts across it: a
+ * job with r steps left is finished after at most 8 x r ticks, those of the earlier release and of this one together. A submit
+ * from then on can name either choice.
+ *
+ * How a running unit changes over:
+ *   1. Stop calling the earlier release, between two of its calls, and keep its VOKHSAOT_OLD_WORDS words and its store as they
+ *      are. Open nothing: an opening would make the record of an empty service.
+ *   2. Call vokhsaot_change_over() once, from the old words into VOKHSAOT_WORDS fresh ones.
+ *   3. If it returns 0, go on with the new words and the same store, and throw the old words away: from the next call on they do
+ *      not belong to the store any more, and must not be changed over again.
+ *   4. If it returns a refusal, nothing was written. The old words are only read, so they and the store are as they were, and
+ *      the earlier release can go on with them.
+ *
+ * How to check that it worked, before the next call:
+ *   - vokhsaot_free_count() of the new words writes the count that the earlier release writes of the old ones.
+ *   - words[72], [73] and [74] are equal to old_words[64], [65] and [66].
+ *   - Of each seat i the eight words from words[9 * i] on are equal to those from old_words[8 * i] on.
+ *   - Of each empty seat i the f, words[9 * i + 8], is 0.
+ *
+ * A record is in order by the old rule exactly where all that is said above of a record in order holds of its words, without what
+ * is said of f.
+ * Refusals:
+ *   2  the old words are no record in order by the old rule, or old_words_len is not VOKHSAOT_OLD_WORDS; so also where they are
+ *      the words of this release, which a change-over wrote
+ *   9  words_len is not VOKHSAOT_WORDS
+ */
+uint32_t vokhsaot_change_over(const uint64_t *old_words, size_t old_words_len, uint64_t *words, size_t words_len);
 
 #ifdef __cplusplus
 }

@@ -6,7 +6,7 @@
 #include <string.h>
 
 /* Limits, layout and version are numbers for the preprocessor too. */
-#if VOKHSAOT_VERSION_MAJOR != 0 || VOKHSAOT_VERSION_MINOR < 3 || VOKHSAOT_VERSION_PATCH < 0
+#if VOKHSAOT_VERSION_MAJOR != 0 || VOKHSAOT_VERSION_MINOR < 4 || VOKHSAOT_VERSION_PATCH < 0
 #error "the version"
 #endif
 #if VOKHSAOT_LARGEST_PIXEL != 65535 || VOKHSAOT_MOST_STEPS != 64 || VOKHSAOT_LONGEST_SIDE != 1024 \
@@ -21,9 +21,12 @@
     || VOKHSAOT_ANSWER_BYTES != 49240
 #error "lengths of lent slices"
 #endif
-#if VOKHSAOT_SEAT_WORDS != 8 || VOKHSAOT_WORD_LAST_NUMBER != VOKHSAOT_SEATS * VOKHSAOT_SEAT_WORDS \
-    || VOKHSAOT_WORD_LAST_FILLED != 65 || VOKHSAOT_WORD_LAST_SERVED != 66 || VOKHSAOT_WORDS != VOKHSAOT_WORD_LAST_SERVED + 1
+#if VOKHSAOT_SEAT_WORDS != 9 || VOKHSAOT_SEAT_F != 8 || VOKHSAOT_WORD_LAST_NUMBER != VOKHSAOT_SEATS * VOKHSAOT_SEAT_WORDS \
+    || VOKHSAOT_WORD_LAST_FILLED != 73 || VOKHSAOT_WORD_LAST_SERVED != 74 || VOKHSAOT_WORDS != VOKHSAOT_WORD_LAST_SERVED + 1
 #error "the record's layout"
+#endif
+#if VOKHSAOT_OLD_SEAT_WORDS != VOKHSAOT_SEAT_F || VOKHSAOT_OLD_WORDS != VOKHSAOT_SEATS * VOKHSAOT_OLD_SEAT_WORDS + 3
+#error "the layout of a record from before the change-over"
 #endif
 
 static void expect(int holds, const char *what) {
@@ -240,6 +243,7 @@ static void service(void) {
 
     expect(store != NULL, "memory");
     expect(vokhsaot_opening(words, VOKHSAOT_WORDS - 1) == VOKHSAOT_WRONG_LENGTH, "short words are refused");
+    expect(vokhsaot_opening(words, VOKHSAOT_OLD_WORDS) == VOKHSAOT_WRONG_LENGTH, "so are as many as an old record has");
     expect(vokhsaot_opening(words, VOKHSAOT_WORDS) == 0, "opening");
     expect(vokhsaot_tick(words, VOKHSAOT_WORDS, store, VOKHSAOT_STORE_PIXELS, &number) == 0 && number == 0, "idle");
     expect(vokhsaot_submit_matrix(words, VOKHSAOT_WORDS, store, VOKHSAOT_STORE_PIXELS, 4097, 0, 4096, 1, 3, 3, picture, 9, &number)
@@ -260,7 +264,7 @@ static void service(void) {
         memset(lent, 0, sizeof lent);
         expect(vokhsaot_collect(words, VOKHSAOT_WORDS, store, VOKHSAOT_STORE_PIXELS, job, lent, 9, &number) == 0 && number == job,
                "collect");
-        expect(memcmp(lent, hollow, sizeof lent) == 0, "the picture, by the smallest choice");
+        expect(memcmp(lent, filled, sizeof lent) == 0, "the picture, by the choice of a caller who names none");
     }
     expect(vokhsaot_withdraw(words, VOKHSAOT_WORDS, 3, &number) == 0 && number == 3, "withdraw");
     expect(vokhsaot_withdraw(words, VOKHSAOT_WORDS, 3, &number) == VOKHSAOT_NO_SUCH_JOB, "withdraw again");
@@ -290,6 +294,8 @@ static void layout(void) {
            "number and covariance of a seat");
     expect(seat[VOKHSAOT_SEAT_STEPS] == 5 && seat[VOKHSAOT_SEAT_STEPS_LEFT] == 4 && seat[VOKHSAOT_SEAT_WIDTH] == 9
                && seat[VOKHSAOT_SEAT_HEIGHT] == 1, "steps and sides of a seat");
+    expect(seat[VOKHSAOT_SEAT_F] == 900 && words[VOKHSAOT_SEAT_F] == 1024, "f of two seats");
+    expect(words[2 * VOKHSAOT_SEAT_WORDS + VOKHSAOT_SEAT_F] == 0, "f of an empty seat");
     expect(words[VOKHSAOT_WORD_LAST_NUMBER] == 2 && words[VOKHSAOT_WORD_LAST_FILLED] == 1
                && words[VOKHSAOT_WORD_LAST_SERVED] == 1, "the last words");
 
@@ -364,7 +370,7 @@ static void pictures_in_the_store(void) {
     memcpy(expected[0], picture, sizeof picture);
     expect(submitted(words, store, 3) == 2 && memcmp(buffers, picture, sizeof picture) == 0, "the picture that was lent");
     for (size_t done = 1; done <= 3; done++) {
-        one_step(VOKHSAOT_SMALLEST, 3, expected[(done + 1) % 2], expected[done % 2]);
+        one_step(VOKHSAOT_BINOMIAL, 3, expected[(done + 1) % 2], expected[done % 2]);
         expect(ticked(words, store) == 1 && ticked(words, store) == 2, "turns");
         expect(memcmp(buffers + done % 2 * VOKHSAOT_BUFFER_PIXELS, expected[done % 2], sizeof picture) == 0, "the last step");
     }
@@ -416,9 +422,11 @@ static void records_in_order(void) {
         {VOKHSAOT_SEAT_STEPS_LEFT, 0, 6}, {VOKHSAOT_SEAT_STEPS_LEFT, 5, UINT32_MAX},
         {VOKHSAOT_SEAT_WIDTH, 1, 0}, {VOKHSAOT_SEAT_HEIGHT, 1, 0}, {VOKHSAOT_SEAT_WIDTH, 341, 342},
         {SECOND + VOKHSAOT_SEAT_WIDTH, 1024, 1025}, {SECOND + VOKHSAOT_SEAT_HEIGHT, 113, 114},
-        {VOKHSAOT_SEAT_XX, 900, 899}, {VOKHSAOT_SEAT_XX, 4096 * 5, 4096 * 5 + 1}, {VOKHSAOT_SEAT_YY, 900, 0xFFFFFFFF},
-        {VOKHSAOT_SEAT_XY, 2048, 2049}, {VOKHSAOT_SEAT_XY, 0xFFFFF800, 0xFFFFF7FF},
+        {VOKHSAOT_SEAT_XX, 900, 899}, {VOKHSAOT_SEAT_XX, 4096 * 5 - 1148, 4096 * 5 - 1147}, {VOKHSAOT_SEAT_YY, 900, 0xFFFFFFFF},
+        {VOKHSAOT_SEAT_XY, 900, 901}, {VOKHSAOT_SEAT_XY, 0xFFFFFC7C, 0xFFFFFC7B},
         {VOKHSAOT_SEAT_XY, 0xFFFFFFFF, UINT64_MAX},
+        {VOKHSAOT_SEAT_F, 900, 899}, {VOKHSAOT_SEAT_F, 2048, 2049}, {VOKHSAOT_SEAT_F, 1500, 0xFFFFFFFF},
+        {VOKHSAOT_SEAT_F, 901, 0}, {SECOND + VOKHSAOT_SEAT_F, 0, 0xFFFFFFFF}, {SECOND + VOKHSAOT_SEAT_F, 2048, 2049},
         {VOKHSAOT_SEAT_JOB, 1, 0}, {SECOND + VOKHSAOT_SEAT_JOB, 2, 1}, {SECOND + VOKHSAOT_SEAT_JOB, 2, 3},
         {VOKHSAOT_WORD_LAST_NUMBER, 2, 1}, {VOKHSAOT_WORD_LAST_NUMBER, UINT64_MAX, 0},
         {VOKHSAOT_WORD_LAST_FILLED, 7, 8}, {VOKHSAOT_WORD_LAST_SERVED, 7, 8},
@@ -437,10 +445,216 @@ static void records_in_order(void) {
     }
     for (size_t place = 0; place < VOKHSAOT_WORDS; place++) {
         expect(in_order_with(words, place, words[place]), "no word changed");
-        expect(place % 8 == 0 || !in_order_with(words, place, words[place] + ((uint64_t)1 << 32)), "a word of more than 32 bits");
-        expect(place / 8 < 2 || place / 8 > 7 || !in_order_with(words, place, 1), "an empty seat that is not all 0");
+        expect(place % VOKHSAOT_SEAT_WORDS == 0 || !in_order_with(words, place, words[place] + ((uint64_t)1 << 32)),
+               "a word of more than 32 bits");
+        expect(place / VOKHSAOT_SEAT_WORDS < 2 || place / VOKHSAOT_SEAT_WORDS > 7 || !in_order_with(words, place, 1),
+               "an empty seat that is not all 0");
+    }
+    /* With the largest f the kernel's own bounds are left. */
+    words[VOKHSAOT_SEAT_F] = 2048;
+    expect(in_order_with(words, VOKHSAOT_SEAT_XX, 4096 * 5) && !in_order_with(words, VOKHSAOT_SEAT_XX, 4096 * 5 + 1), "steps enough");
+    expect(in_order_with(words, VOKHSAOT_SEAT_XY, 2048) && !in_order_with(words, VOKHSAOT_SEAT_XY, 2049), "a lean");
+    expect(in_order_with(words, VOKHSAOT_SEAT_XY, 0xFFFFF800) && !in_order_with(words, VOKHSAOT_SEAT_XY, 0xFFFFF7FF),
+           "the other lean");
+    free(store);
+}
+
+/* An f out of its bounds is refused with 2 by every call, and nothing changes. */
+static void refused_f(void) {
+    uint64_t words[VOKHSAOT_WORDS], kept[VOKHSAOT_WORDS], number = 99;
+    uint16_t *store = opened(words), lent[9] = {0};
+    uint32_t count = 99;
+
+    expect(submitted(words, store, 1) == 1, "a job");
+    words[VOKHSAOT_SEAT_F] = 2049;
+    memcpy(kept, words, sizeof kept);
+    expect(vokhsaot_submit_matrix_by(words, VOKHSAOT_WORDS, store, VOKHSAOT_STORE_PIXELS, VOKHSAOT_SMALLEST, 0, 0, 0, 1, 3, 3, picture,
+                                     9, &number) == VOKHSAOT_RECORD_OUT_OF_ORDER, "submit of a matrix");
+    expect(vokhsaot_submit_round_by(words, VOKHSAOT_WORDS, store, VOKHSAOT_STORE_PIXELS, VOKHSAOT_SMALLEST, 0.5, 1, 3, 3, picture, 9,
+                                    &number) == VOKHSAOT_RECORD_OUT_OF_ORDER, "submit of a round shape");
+    expect(vokhsaot_submit_oval_by(words, VOKHSAOT_WORDS, store, VOKHSAOT_STORE_PIXELS, VOKHSAOT_BINOMIAL, 0.5, 0.5, 1.0, 0.0, 1, 3, 3,
+                                   picture, 9, &number) == VOKHSAOT_RECORD_OUT_OF_ORDER, "submit of an oval shape");
+    expect(vokhsaot_tick(words, VOKHSAOT_WORDS, store, VOKHSAOT_STORE_PIXELS, &number) == VOKHSAOT_RECORD_OUT_OF_ORDER, "tick");
+    expect(vokhsaot_collect(words, VOKHSAOT_WORDS, store, VOKHSAOT_STORE_PIXELS, 1, lent, 9, &number) == VOKHSAOT_RECORD_OUT_OF_ORDER,
+           "collect");
+    expect(vokhsaot_withdraw(words, VOKHSAOT_WORDS, 1, &number) == VOKHSAOT_RECORD_OUT_OF_ORDER, "withdraw");
+    expect(vokhsaot_free_count(words, VOKHSAOT_WORDS, &count) == VOKHSAOT_RECORD_OUT_OF_ORDER, "free count");
+    expect(memcmp(words, kept, sizeof kept) == 0 && memcmp(store, picture, sizeof picture) == 0 && lent[4] == 0 && number == 99
+               && count == 99, "a refusal changes nothing");
+    free(store);
+}
+
+/* Case a as three jobs, of a matrix, a round shape and an oval, by one number for the choice. */
+static void choice_is(uint32_t choice, uint64_t f, const uint16_t *expected) {
+    uint64_t words[VOKHSAOT_WORDS], number = 0;
+    uint16_t *store = opened(words), lent[9];
+
+    expect(vokhsaot_submit_matrix_by(words, VOKHSAOT_WORDS, store, VOKHSAOT_STORE_PIXELS, choice, 2048, 0, 2048, 1, 3, 3, picture, 9,
+                                     &number) == 0 && number == 1, "a matrix by a choice");
+    expect(vokhsaot_submit_round_by(words, VOKHSAOT_WORDS, store, VOKHSAOT_STORE_PIXELS, choice, 0.5, 1, 3, 3, picture, 9, &number)
+               == 0 && number == 2, "a round shape by a choice");
+    expect(vokhsaot_submit_oval_by(words, VOKHSAOT_WORDS, store, VOKHSAOT_STORE_PIXELS, choice, 0.5, 0.5, 1.0, 0.0, 1, 3, 3, picture, 9,
+                                   &number) == 0 && number == 3, "an oval by a choice");
+    for (uint64_t job = 1; job <= 3; job++) {
+        expect(words[(job - 1) * VOKHSAOT_SEAT_WORDS + VOKHSAOT_SEAT_F] == f, "the f of the choice");
+        expect(ticked(words, store) == job, "a step of each");
+        expect(vokhsaot_collect(words, VOKHSAOT_WORDS, store, VOKHSAOT_STORE_PIXELS, job, lent, 9, &number) == 0
+                   && memcmp(lent, expected, sizeof lent) == 0, "the picture of the choice");
+        expect(words[(job - 1) * VOKHSAOT_SEAT_WORDS + VOKHSAOT_SEAT_F] == 0, "f of a seat that got empty");
     }
     free(store);
+}
+
+static void choices_of_jobs(void) {
+    choice_is(VOKHSAOT_BINOMIAL, 1024, filled);
+    choice_is(VOKHSAOT_SMALLEST, 0, hollow);
+    choice_is(2, 1024, filled);
+    choice_is(UINT32_MAX, 1024, filled);
+}
+
+/* A tick goes by the seat's f, which may be one of neither choice. */
+static void f_of_no_choice(void) {
+    static const uint16_t between[9] = {50, 300, 50, 300, 200, 300, 50, 300, 50};
+    uint64_t words[VOKHSAOT_WORDS];
+    uint16_t *store = opened(words);
+
+    expect(submitted(words, store, 1) == 1, "a job");
+    words[VOKHSAOT_SEAT_F] = 512;
+    expect(ticked(words, store) == 1 && memcmp(store + VOKHSAOT_BUFFER_PIXELS, between, sizeof between) == 0, "the step of its f");
+    free(store);
+}
+
+/*
+ * What the release before left: job 4 in seat 1 with one of its three steps done, case a's shape and picture; job 6 in seat 2, a lean
+ * shape of 9 x 1 pixels with both its steps left; job 5 in seat 7, finished. The store's pixels are those of the jobs' pictures, and
+ * step is the one that job 4 has done.
+ */
+static void left_before(uint64_t *old, uint16_t *store, uint16_t *step) {
+    static const uint64_t jobs[3][VOKHSAOT_OLD_SEAT_WORDS] = {
+        {4, 2048, 0, 2048, 3, 2, 3, 3}, {6, 5000, 0xFFFFFC7C, 5500, 2, 2, 9, 1}, {5, 4096, 0, 4096, 1, 0, 3, 3}};
+    static const size_t seats[3] = {1, 2, 7};
+
+    memset(old, 0, VOKHSAOT_OLD_WORDS * sizeof *old);
+    for (size_t i = 0; i < 3; i++) {
+        memcpy(old + seats[i] * VOKHSAOT_OLD_SEAT_WORDS, jobs[i], sizeof jobs[i]);
+    }
+    old[64] = 9;
+    old[65] = 2;
+    old[66] = 1;
+    one_step(VOKHSAOT_SMALLEST, 3, picture, step);
+    memcpy(store + 3 * VOKHSAOT_BUFFER_PIXELS, step, sizeof picture);
+    memcpy(store + 4 * VOKHSAOT_BUFFER_PIXELS, picture, sizeof picture);
+    memcpy(store + 15 * VOKHSAOT_BUFFER_PIXELS, filled, sizeof picture);
+}
+
+/* The change-over as the header has it checked: every field is kept, f is the smallest where there is a job and 0 elsewhere. */
+static void carried_over(const uint64_t *old, const uint64_t *words) {
+    static const uint64_t f[VOKHSAOT_SEATS] = {0, 0, 2308, 0, 0, 0, 0, 4096};
+    uint32_t count = 99;
+
+    expect(vokhsaot_free_count(words, VOKHSAOT_WORDS, &count) == 0 && count == 10, "the free count");
+    for (size_t seat = 0; seat < VOKHSAOT_SEATS; seat++) {
+        expect(memcmp(words + seat * VOKHSAOT_SEAT_WORDS, old + seat * VOKHSAOT_OLD_SEAT_WORDS,
+                      VOKHSAOT_OLD_SEAT_WORDS * sizeof *old) == 0, "the eight words of a seat");
+        expect(words[seat * VOKHSAOT_SEAT_WORDS + VOKHSAOT_SEAT_F] == f[seat], "the smallest f");
+    }
+    expect(words[VOKHSAOT_WORD_LAST_NUMBER] == old[64] && words[VOKHSAOT_WORD_LAST_FILLED] == old[65]
+               && words[VOKHSAOT_WORD_LAST_SERVED] == old[66], "the last words");
+}
+
+/* A running unit changes over, and its jobs end with the pixels of their time; turns and numbers carry on. */
+static void change_over(void) {
+    uint64_t old[VOKHSAOT_OLD_WORDS], kept[VOKHSAOT_OLD_WORDS], words[VOKHSAOT_WORDS], number = 0;
+    uint16_t *store = calloc(VOKHSAOT_STORE_PIXELS, sizeof *store), steps[2][9], lent[9];
+
+    expect(store != NULL, "memory");
+    left_before(old, store, steps[0]);
+    memcpy(kept, old, sizeof kept);
+    memset(words, 0xAB, sizeof words);
+    expect(vokhsaot_change_over(old, VOKHSAOT_OLD_WORDS, words, VOKHSAOT_WORDS) == 0, "the change-over");
+    expect(memcmp(old, kept, sizeof old) == 0, "the old words are only read");
+    carried_over(old, words);
+
+    expect(submitted(words, store, 3) == 10 && vokhsaot_seat_of(words, VOKHSAOT_WORDS, 10) == 3, "numbers and seats go on");
+    expect(words[3 * VOKHSAOT_SEAT_WORDS + VOKHSAOT_SEAT_F] == 0, "f of a job whose two choices are one");
+    expect(ticked(words, store) == 6 && ticked(words, store) == 10 && ticked(words, store) == 4, "turns go on");
+    expect(ticked(words, store) == 6 && ticked(words, store) == 10 && ticked(words, store) == 4, "round by round");
+    one_step(VOKHSAOT_SMALLEST, 3, steps[0], steps[1]);
+    one_step(VOKHSAOT_SMALLEST, 3, steps[1], steps[0]);
+    expect(vokhsaot_collect(words, VOKHSAOT_WORDS, store, VOKHSAOT_STORE_PIXELS, 4, lent, 9, &number) == 0
+               && memcmp(lent, steps[0], sizeof lent) == 0, "the job that was half done");
+    expect(vokhsaot_collect(words, VOKHSAOT_WORDS, store, VOKHSAOT_STORE_PIXELS, 5, lent, 9, &number) == 0
+               && memcmp(lent, filled, sizeof lent) == 0, "the job that was finished");
+    free(store);
+}
+
+/* A change-over that is refused by this number, with words of this length lent: it writes nothing. */
+static void refused_change_over(const uint64_t *old, size_t old_len, size_t words_len, uint32_t refusal, const char *what) {
+    uint64_t old_kept[VOKHSAOT_WORDS + 1], words[VOKHSAOT_WORDS + 1], kept[VOKHSAOT_WORDS + 1];
+
+    memset(words, 0xAB, sizeof words);
+    memcpy(kept, words, sizeof kept);
+    memcpy(old_kept, old, old_len * sizeof *old);
+    expect(vokhsaot_change_over(old, old_len, words, words_len) == refusal, what);
+    expect(memcmp(words, kept, sizeof words) == 0, "a refusal writes nothing");
+    expect(memcmp(old, old_kept, old_len * sizeof *old) == 0, "the old words are only read");
+}
+
+static void refused_change_overs(void) {
+    static const struct {
+        size_t place;
+        uint64_t word;
+    } damages[] = {
+        {8, 0}, {8, 5}, {8, 10}, {9, 0xFFFFFFFF}, {9, 4096 * 3 + 1}, {10, 2049}, {10, 0xFFFFF7FF}, {10, UINT64_MAX}, {11, 0x80000000},
+        {12, 0}, {12, 65}, {12, 1}, {13, 4}, {14, 0}, {14, 342}, {15, 1025}, {64, 5}, {65, 8}, {66, 8}, {66, UINT64_MAX},
+    };
+    static const size_t lengths[] = {0, 1, 8, 64, VOKHSAOT_OLD_WORDS - 1, VOKHSAOT_OLD_WORDS + 1, VOKHSAOT_WORDS, VOKHSAOT_WORDS + 1};
+    static const size_t new_lengths[] = {0, 1, VOKHSAOT_OLD_WORDS, VOKHSAOT_WORDS - 1, VOKHSAOT_WORDS + 1};
+    uint64_t old[VOKHSAOT_WORDS + 1] = {0}, words[VOKHSAOT_WORDS];
+    uint16_t *store = calloc(VOKHSAOT_STORE_PIXELS, sizeof *store), step[9];
+
+    expect(store != NULL, "memory");
+    left_before(old, store, step);
+    for (size_t i = 0; i < sizeof lengths / sizeof *lengths; i++) {
+        refused_change_over(old, lengths[i], VOKHSAOT_WORDS, VOKHSAOT_RECORD_OUT_OF_ORDER, "old words of another number");
+        refused_change_over(old, lengths[i], 1, VOKHSAOT_RECORD_OUT_OF_ORDER, "2 comes before 9");
+    }
+    for (size_t i = 0; i < sizeof new_lengths / sizeof *new_lengths; i++) {
+        refused_change_over(old, VOKHSAOT_OLD_WORDS, new_lengths[i], VOKHSAOT_WRONG_LENGTH, "new words of another number");
+    }
+    for (size_t i = 0; i < sizeof damages / sizeof *damages; i++) {
+        const uint64_t word = old[damages[i].place];
+        old[damages[i].place] = damages[i].word;
+        refused_change_over(old, VOKHSAOT_OLD_WORDS, VOKHSAOT_WORDS, VOKHSAOT_RECORD_OUT_OF_ORDER, "a damaged word");
+        refused_change_over(old, VOKHSAOT_OLD_WORDS, 0, VOKHSAOT_RECORD_OUT_OF_ORDER, "2 comes before 9");
+        old[damages[i].place] = word;
+    }
+    for (size_t place = 0; place < VOKHSAOT_OLD_WORDS; place++) {
+        const uint64_t word = old[place];
+        const int empty = place < 64 && old[place / 8 * 8] == 0;
+        old[place] = word + ((uint64_t)1 << 32);
+        if (place != 64) { /* a job's number then is above the last number given */
+            refused_change_over(old, VOKHSAOT_OLD_WORDS, VOKHSAOT_WORDS, VOKHSAOT_RECORD_OUT_OF_ORDER, "a word of more than 32 bits");
+        }
+        old[place] = 1;
+        if (empty) {
+            refused_change_over(old, VOKHSAOT_OLD_WORDS, VOKHSAOT_WORDS, VOKHSAOT_RECORD_OUT_OF_ORDER, "an empty seat, not all 0");
+        }
+        old[place] = word;
+    }
+    expect(vokhsaot_change_over(old, VOKHSAOT_OLD_WORDS, words, VOKHSAOT_WORDS) == 0, "repaired, it changes over");
+    refused_change_over(words, VOKHSAOT_WORDS, VOKHSAOT_WORDS, VOKHSAOT_RECORD_OUT_OF_ORDER, "there is no second change-over");
+    free(store);
+}
+
+/* An empty service changes over to an empty one. */
+static void change_over_of_an_opening(void) {
+    uint64_t old[VOKHSAOT_OLD_WORDS] = {0}, words[VOKHSAOT_WORDS], opening[VOKHSAOT_WORDS];
+
+    old[65] = old[66] = 7;
+    expect(vokhsaot_opening(opening, VOKHSAOT_WORDS) == 0, "opening");
+    expect(vokhsaot_change_over(old, VOKHSAOT_OLD_WORDS, words, VOKHSAOT_WORDS) == 0 && memcmp(words, opening, sizeof words) == 0,
+           "an opening's change-over");
 }
 
 static void signed_words(void) {
@@ -479,6 +693,12 @@ int main(void) {
     pictures_in_the_store();
     the_wait();
     records_in_order();
+    refused_f();
+    choices_of_jobs();
+    f_of_no_choice();
+    change_over();
+    refused_change_overs();
+    change_over_of_an_opening();
     signed_words();
     sentences();
     return 0;

@@ -2,8 +2,9 @@
 //! the borders.
 
 use crate::job_text::{Job, MAX_TEXT};
-use crate::kernel::{Covariance, UNITS};
+use crate::kernel::{free_numbers, Covariance, UNITS};
 use crate::random::Random;
+use crate::service::{Record, Rules, Slot, SLOTS};
 use crate::shape::{Direction, Shape};
 use crate::smooth::places;
 
@@ -569,6 +570,89 @@ pub fn pixels_within(random: &mut Random, pixels: &[u16], gap: u16) -> Vec<u16> 
             (i64::from(*pixel) + moved).clamp(0, 65535) as u16
         })
         .collect()
+}
+
+/// The ends of the numbers f with which the weights of a filled slot's kernel
+/// are not negative; the slot is one of a record in order, by either rules.
+pub fn f_bounds(slot: &Slot) -> (i64, i64) {
+    let [xx, xy, yy] = [slot.xx, slot.xy, slot.yy].map(i64::from);
+    free_numbers(xx, xy, yy, UNITS * i64::from(slot.steps)).into_inner()
+}
+
+/// One of a filled slot's numbers f: often an end or next to it.
+pub fn random_f(random: &mut Random, slot: &Slot) -> u32 {
+    let (least, most) = f_bounds(slot);
+    let near = match random.below(6) {
+        0 => least,
+        1 => most,
+        2 => least + 1,
+        3 => most - 1,
+        _ => random.between(least, most),
+    };
+    near.clamp(least, most) as u32
+}
+
+/// A record of the new rules whose filled slots have any of their numbers f, not
+/// only those that a choice gives.
+pub fn with_any_f(random: &mut Random, record: &Record) -> Record {
+    assert_eq!(record.rules, Rules::New);
+    let mut record = *record;
+    for slot in record.slots.iter_mut().filter(|slot| slot.number != 0) {
+        slot.f = random_f(random, slot);
+    }
+    record
+}
+
+/// Changes one field of a record to something else, or to what it was.
+pub fn damage(random: &mut Random, record: &mut Record) {
+    let i = random.below(SLOTS as u64) as usize;
+    let odd = random.pick(&[0, 1, 2, 8, 64, 65, 1024, 1025, u32::MAX]);
+    let entry = random.pick(&[-1, 0, 1, 4096, i32::MIN, i32::MAX]);
+    let fields = match record.rules {
+        Rules::Old => 12,
+        Rules::New => 15,
+    };
+    let next = record.slots[(i + 1) % SLOTS];
+    let slot: &mut Slot = &mut record.slots[i];
+    match random.below(fields) {
+        0 => slot.number = random.pick(&[0, 1, 2, u64::MAX]),
+        1 => slot.xx = entry,
+        2 => slot.xy = entry,
+        3 => slot.yy = entry,
+        4 => slot.steps = odd,
+        5 => slot.steps_left = odd,
+        6 => slot.width = odd,
+        7 => slot.height = odd,
+        8 => record.last_number = random.pick(&[0, 1, u64::MAX - 1, u64::MAX]),
+        9 => record.last_filled = odd,
+        10 => record.last_served = odd,
+        11 => *slot = next,
+        12 => slot.f = odd,
+        // Next to a bound, on either side of it; of an empty slot that is next to 0.
+        _ => {
+            let (least, most) = f_bounds(slot);
+            let near = random.pick(&[least - 1, least, most, most + 1]);
+            slot.f = near.clamp(0, u32::MAX.into()) as u32;
+        }
+    }
+}
+
+/// Words with one or two changed: to one that does not fit 32 bits, or to one
+/// that stands elsewhere.
+pub fn damaged_words(random: &mut Random, words: &[u64]) -> Vec<u64> {
+    let mut words = words.to_vec();
+    for _ in 0..=random.below(2) {
+        let place = random.below(words.len() as u64) as usize;
+        words[place] = match random.below(6) {
+            0 => words[place] | 1 << random.between(32, 63),
+            1 => words[place] | u64::MAX << 32,
+            2 => words[place].wrapping_add(1),
+            3 => words[place].wrapping_sub(1),
+            4 => 0,
+            _ => random.pick(&words),
+        };
+    }
+    words
 }
 
 /// The text of a job.

@@ -322,7 +322,23 @@ pub fn kernel_by(choice: Choice, covariance: Covariance, steps: u32) -> Result<K
         return Err(NO_KERNEL);
     }
     let f = free_number_by(choice, xx, xy, yy, m);
+    Ok(kernel_with(f, covariance, steps)?.expect("a weight is negative"))
+}
+
+/// The kernel with a free number f, whoever chose it; `None` where one of its
+/// weights is negative; refusal 5.
+pub fn kernel_with(
+    f: i64,
+    covariance: Covariance,
+    steps: u32,
+) -> Result<Option<Kernel>, ErrorCode> {
+    check_steps(steps)?;
+    let m = UNITS * i64::from(steps);
+    let [xx, xy, yy] = [covariance.xx, covariance.xy, covariance.yy].map(i64::from);
     let weights = molecule_with(f, xx, xy, yy, m);
+    if weights.iter().any(|weight| *weight < 0) {
+        return Ok(None);
+    }
     debug_assert!(meets_definition(
         &weights.map(i128::from),
         4 * i128::from(m),
@@ -331,8 +347,8 @@ pub fn kernel_by(choice: Choice, covariance: Covariance, steps: u32) -> Result<K
         yy,
         m
     ));
-    Ok(Kernel {
-        weights: weights.map(|weight| u64::try_from(weight).expect("a weight is negative")),
+    Ok(Some(Kernel {
+        weights: weights.map(|weight| weight as u64),
         sum: 4 * m as u64,
-    })
+    }))
 }

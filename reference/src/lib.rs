@@ -13,7 +13,9 @@
 //! - [`smooth`]: the pixel at a place, a step, a run, the exact run and the distance from it.
 //! - [`extrema`]: peaks that do not rise, pictures that stay as close as they were.
 //! - [`difference`]: the five undivided differences and the directional one.
-//! - [`service`]: eight slots over a buffer pool, served by round robin.
+//! - [`service`]: eight slots over a buffer pool, served by round robin, by the old rules
+//!   or the new ones, and the change-over between them.
+//! - [`words`]: a record of either rules as the words that callers lend.
 //! - [`lists`]: demand 3 as a check of lists of calls, of this service or another.
 //! - [`job_text`]: the text of a bench job, and what the bench program prints.
 //! - [`natural`]: whole numbers of any size, for the exact run.
@@ -32,3 +34,4 @@ pub mod random;
 pub mod service;
 pub mod shape;
 pub mod smooth;
+pub mod words;

@@ -4,14 +4,18 @@
 //! Submit, tick and collect are lent the store and check its length with the
 //! record (refusal 2); withdraw and the free count are not lent it.
 //!
-//! Its jobs go by the smallest choice (S2.11), until S-3 gives the record a
-//! field that can hold a choice.
+//! There are two sets of rules, and a record says by which it runs: the old
+//! ones, from before S-3, whose jobs all go by the smallest choice, and the new
+//! ones, whose slots hold the f that their jobs go by. The change-over leads
+//! from the old ones to the new ones while the service runs.
 
 use crate::error_code::{
     check_length, check_sides, check_steps, require, ErrorCode, JOB_UNFINISHED, NO_FREE_BUFFERS,
-    NUMBERS_EXHAUSTED, PICTURE_TOO_LARGE, SERVICE_NOT_IN_ORDER, UNKNOWN_JOB,
+    NO_KERNEL, NUMBERS_EXHAUSTED, PICTURE_TOO_LARGE, SERVICE_NOT_IN_ORDER, UNKNOWN_JOB,
 };
-use crate::kernel::{kernel_by, Choice, Covariance};
+use crate::kernel::{
+    free_number, free_number_by, kernel_by, kernel_with, Choice, Covariance, Kernel, UNITS,
+};
 use crate::shape::{covariance, Shape};
 use crate::smooth::step;
 
@@ -24,8 +28,28 @@ pub const BUFFER_PIXELS: usize = 1024;
 /// Pixels in the pool.
 pub const STORE_PIXELS: usize = BUFFERS * BUFFER_PIXELS;
 
-/// The choice of every job of the service, until S-3.
-pub const CHOICE: Choice = Choice::Smallest;
+/// What a service runs by.
+#[derive(Clone, Copy, Debug, PartialEq, Eq)]
+pub enum Rules {
+    /// Those from before S-3: no slot holds an f, no submit names a choice, and
+    /// every job goes by the smallest one.
+    Old,
+    /// Those of S-3: each slot holds its job's f, and a submit can name a choice.
+    New,
+}
+
+impl Rules {
+    pub const ALL: [Rules; 2] = [Rules::Old, Rules::New];
+
+    /// The choice of a job whose submit names this one or none.
+    pub fn choice(self, named: Option<Choice>) -> Choice {
+        match (self, named) {
+            (Rules::Old, None) => Choice::Smallest,
+            (Rules::Old, Some(_)) => panic!("a submit by the old rules cannot name a choice"),
+            (Rules::New, named) => named.unwrap_or_default(),
+        }
+    }
+}
 
 /// A slot of the record; all zero where it is empty.
 #[derive(Clone, Copy, Debug, Default, PartialEq, Eq)]
@@ -39,11 +63,15 @@ pub struct Slot {
     pub steps_left: u32,
     pub width: u32,
     pub height: u32,
+    /// The free number of the job's kernel. A record of the old rules has no
+    /// such field: it is 0 there.
+    pub f: u32,
 }
 
 /// The service record.
 #[derive(Clone, Copy, Debug, PartialEq, Eq)]
 pub struct Record {
+    pub rules: Rules,
     pub slots: [Slot; SLOTS],
     pub last_number: u64,
     pub last_filled: u32,
@@ -59,7 +87,7 @@ impl Slot {
         self.width as usize * self.height as usize
     }
 
-    fn covariance(&self) -> Covariance {
+    pub fn covariance(&self) -> Covariance {
         Covariance {
             xx: self.xx,
             xy: self.xy,
@@ -71,11 +99,34 @@ impl Slot {
     fn steps_done(&self) -> u32 {
         self.steps - self.steps_left
     }
+
+    /// The kernel that its ticks go by: that of its own f, if it holds one.
+    fn kernel(&self, rules: Rules) -> Result<Kernel, ErrorCode> {
+        match rules {
+            Rules::Old => kernel_by(Choice::Smallest, self.covariance(), self.steps),
+            Rules::New => {
+                kernel_with(self.f.into(), self.covariance(), self.steps)?.ok_or(NO_KERNEL)
+            }
+        }
+    }
+
+    /// The smallest f of its shape and steps, which its job went by before S-3;
+    /// the record is in order.
+    fn smallest_f(&self) -> u32 {
+        let [xx, xy, yy] = [self.xx, self.xy, self.yy].map(i64::from);
+        unsigned(free_number(xx, xy, yy, UNITS * i64::from(self.steps)))
+    }
 }
 
-/// The record of a service just opened.
-pub fn opening() -> Record {
+/// An f of a kernel: not negative, and at most a variance.
+fn unsigned(f: i64) -> u32 {
+    u32::try_from(f).expect("an f of a kernel fits its field")
+}
+
+/// The record of a service just opened by some rules.
+pub fn opening(rules: Rules) -> Record {
     Record {
+        rules,
         slots: [Slot::default(); SLOTS],
         last_number: 0,
         last_filled: 7,
@@ -83,20 +134,21 @@ pub fn opening() -> Record {
     }
 }
 
-/// Whether a filled slot meets its limits and has a kernel.
-fn slot_fits(slot: &Slot) -> bool {
+/// Whether a filled slot meets its limits and has a kernel; by the new rules
+/// that is one with its f, which none of the nine weights is negative with.
+fn slot_fits(rules: Rules, slot: &Slot) -> bool {
     check_steps(slot.steps).is_ok()
         && check_sides(slot.width, slot.height).is_ok()
         && slot.pixels() <= BUFFER_PIXELS
-        && kernel_by(CHOICE, slot.covariance(), slot.steps).is_ok()
+        && slot.kernel(rules).is_ok()
         && slot.steps_left <= slot.steps
 }
 
-/// Whether a record is in order.
+/// Whether a record is in order, by its rules.
 pub fn in_order(record: &Record) -> bool {
     let slots_hold = record.slots.iter().all(|slot| {
         if slot.is_filled() {
-            slot_fits(slot) && slot.number <= record.last_number
+            slot_fits(record.rules, slot) && slot.number <= record.last_number
         } else {
             *slot == Slot::default()
         }
@@ -150,23 +202,27 @@ fn buffer_start(slot: usize, steps_done: u32) -> usize {
     (2 * slot + steps_done as usize % 2) * BUFFER_PIXELS
 }
 
-/// Submits a job and answers its number; refusals 2, 3, 4, 5, 6, 9, 10, 11, 12, 13.
+/// Submits a job and answers its number; refusals 2, 3, 4, 5, 6, 9, 10, 11, 12,
+/// 13. By the old rules it names no choice.
+#[allow(clippy::too_many_arguments)]
 pub fn submit(
     record: &mut Record,
     store: &mut [u16],
+    named: Option<Choice>,
     shape: Shape,
     steps: u32,
     width: u32,
     height: u32,
     picture: &[u16],
 ) -> Result<u64, ErrorCode> {
+    let choice = record.rules.choice(named);
     check_service(record, store)?;
     let covariance = covariance(shape)?;
     check_steps(steps)?;
     check_sides(width, height)?;
     check_length(picture.len(), width, height)?;
     require(picture.len() <= BUFFER_PIXELS, PICTURE_TOO_LARGE)?;
-    kernel_by(CHOICE, covariance, steps)?;
+    kernel_by(choice, covariance, steps)?;
     require(count_free(record) >= 2, NO_FREE_BUFFERS)?;
     let number = record.last_number.checked_add(1).ok_or(NUMBERS_EXHAUSTED)?;
 
@@ -174,6 +230,8 @@ pub fn submit(
         .expect("two free buffers belong to an empty slot");
     let start = buffer_start(i, 0);
     store[start..start + picture.len()].copy_from_slice(picture);
+    let [xx, xy, yy] = [covariance.xx, covariance.xy, covariance.yy].map(i64::from);
+    let f = free_number_by(choice, xx, xy, yy, UNITS * i64::from(steps));
     record.slots[i] = Slot {
         number,
         xx: covariance.xx,
@@ -183,6 +241,10 @@ pub fn submit(
         steps_left: steps,
         width,
         height,
+        f: match record.rules {
+            Rules::Old => 0,
+            Rules::New => unsigned(f),
+        },
     };
     record.last_number = number;
     record.last_filled = i as u32;
@@ -196,8 +258,8 @@ pub fn tick(record: &mut Record, store: &mut [u16]) -> Result<Option<u64>, Error
         return Ok(None);
     };
     let slot = record.slots[i];
-    let kernel =
-        kernel_by(CHOICE, slot.covariance(), slot.steps).expect("a filled slot has a kernel");
+    let kernel = slot.kernel(record.rules);
+    let kernel = kernel.expect("a filled slot has a kernel");
     let done = slot.steps_done();
     let source = buffer_start(i, done);
     let target = buffer_start(i, done + 1);
@@ -240,4 +302,18 @@ pub fn withdraw(record: &mut Record, number: u64) -> Result<u64, ErrorCode> {
 pub fn free_count(record: &Record) -> Result<u32, ErrorCode> {
     check_record(record)?;
     Ok(count_free(record))
+}
+
+/// The change-over: the record of the new rules with which a service of the old
+/// ones goes on, over the same store. Refusal 2 where the record is not in order
+/// by the old rule, as one of the new rules never is.
+pub fn change_over(record: &Record) -> Result<Record, ErrorCode> {
+    require(record.rules == Rules::Old, SERVICE_NOT_IN_ORDER)?;
+    check_record(record)?;
+    let mut changed = *record;
+    changed.rules = Rules::New;
+    for slot in changed.slots.iter_mut().filter(|slot| slot.is_filled()) {
+        slot.f = slot.smallest_f();
+    }
+    Ok(changed)
 }

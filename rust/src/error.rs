@@ -23,7 +23,8 @@ pub enum Error {
     /// 2: the record of a service is not in order, or, in the calls that work in the store
     /// ([`submit`](crate::Service::submit), [`tick`](crate::Service::tick), [`collect`](crate::Service::collect)), the store's
     /// length is not [`STORE_PIXELS`](crate::STORE_PIXELS). The calls leave every record in order: words and stores from elsewhere
-    /// ([`from_parts`](crate::Service::from_parts)) are refused with it.
+    /// ([`from_parts`](crate::Service::from_parts)) are refused with it. [`change_over`](crate::Service::change_over) refuses with
+    /// it what is not in order by the rule of the release before.
     RecordOutOfOrder,
     /// 3: a variance of a [`Round`](crate::Shape::Round) or an [`Oval`](crate::Shape::Oval) is not a number or lies outside 0 to
     /// 64. A [`Matrix`](crate::Shape::Matrix) never meets this.

@@ -3,11 +3,12 @@
 
 extern "C" {
     pub fn vokhsaot_opening(words: *mut u64, words_len: usize) -> u32;
-    pub fn vokhsaot_submit_matrix(
+    pub fn vokhsaot_submit_matrix_by(
         words: *mut u64,
         words_len: usize,
         store: *mut u16,
         store_len: usize,
+        choice: u32,
         xx: i32,
         xy: i32,
         yy: i32,
@@ -18,11 +19,12 @@ extern "C" {
         pixels_len: usize,
         number: *mut u64,
     ) -> u32;
-    pub fn vokhsaot_submit_round(
+    pub fn vokhsaot_submit_round_by(
         words: *mut u64,
         words_len: usize,
         store: *mut u16,
         store_len: usize,
+        choice: u32,
         variance: f64,
         steps: u32,
         width: u32,
@@ -31,11 +33,12 @@ extern "C" {
         pixels_len: usize,
         number: *mut u64,
     ) -> u32;
-    pub fn vokhsaot_submit_oval(
+    pub fn vokhsaot_submit_oval_by(
         words: *mut u64,
         words_len: usize,
         store: *mut u16,
         store_len: usize,
+        choice: u32,
         long_variance: f64,
         short_variance: f64,
         cosine: f64,
@@ -66,6 +69,12 @@ extern "C" {
     ) -> u32;
     pub fn vokhsaot_withdraw(words: *mut u64, words_len: usize, job: u64, number: *mut u64) -> u32;
     pub fn vokhsaot_free_count(words: *const u64, words_len: usize, count: *mut u32) -> u32;
+    pub fn vokhsaot_change_over(
+        old_words: *const u64,
+        old_words_len: usize,
+        words: *mut u64,
+        words_len: usize,
+    ) -> u32;
     pub fn vokhsaot_covariance_round(variance: f64, entries: *mut i32, entries_len: usize) -> u32;
     pub fn vokhsaot_covariance_oval(
         long_variance: f64,

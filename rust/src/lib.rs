@@ -54,7 +54,9 @@
 //!
 //! # The service
 //!
-//! A [`Service`] holds up to eight jobs and does their steps one by one, in turn. Each job gets the picture that it would get alone.
+//! A [`Service`] holds up to eight jobs and does their steps one by one, in turn. Each job gets the picture that it would get alone, by
+//! the [`Choice`] that its submit named. A unit that runs the release before, whose records hold no choice, goes on under this one
+//! without a stop: [`Service::change_over`] says how.
 //!
 //! ```
 //! use vokhsaot::{Service, Shape};
@@ -107,6 +109,6 @@ pub use limits::*;
 pub use picture::{
     difference, directional, pixel, run, run_by, shown, smooth, smooth_by, Difference,
 };
-pub use service::{Job, Service};
+pub use service::{Job, NotChangedOver, Service};
 pub use shape::{covariance, kernel, kernel_by, Choice, Covariance, Direction, Kernel, Shape};
 pub use text::answer_text;

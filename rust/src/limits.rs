@@ -23,9 +23,14 @@ pub const STORE_PIXELS: usize = BUFFERS * BUFFER_PIXELS;
 
 /// Words of a service record: [`SEAT_WORDS`] for each seat, then three of the service.
 pub const WORDS: usize = SEATS * SEAT_WORDS + 3;
+/// Words of a record from before jobs had a choice, which [`Service::change_over`](crate::Service::change_over) takes:
+/// [`OLD_SEAT_WORDS`] for each seat, then the same three.
+pub const OLD_WORDS: usize = SEATS * OLD_SEAT_WORDS + 3;
 /// Words of one seat. Seat `i` begins with word `i * SEAT_WORDS`, and the places `SEAT_..` count from there. All are 0 where it is
 /// empty.
-pub const SEAT_WORDS: usize = 8;
+pub const SEAT_WORDS: usize = 9;
+/// Words of one seat in a record from before jobs had a choice: those of today without the last, [`SEAT_F`].
+pub const OLD_SEAT_WORDS: usize = 8;
 /// Within a seat: its job's number, or 0.
 pub const SEAT_JOB: usize = 0;
 /// Within a seat: xx of the job's covariance, as its two's complement in 32 bits.
@@ -42,12 +47,14 @@ pub const SEAT_STEPS_LEFT: usize = 5;
 pub const SEAT_WIDTH: usize = 6;
 /// Within a seat: the height of the job's picture.
 pub const SEAT_HEIGHT: usize = 7;
+/// Within a seat: the number f that the job's kernel has, which its choice gave.
+pub const SEAT_F: usize = 8;
 /// The word with the last number given, 0 before the first.
-pub const WORD_LAST_NUMBER: usize = 64;
+pub const WORD_LAST_NUMBER: usize = 72;
 /// The word with the seat last filled, counted from 0.
-pub const WORD_LAST_FILLED: usize = 65;
+pub const WORD_LAST_FILLED: usize = 73;
 /// The word with the seat last served, counted from 0.
-pub const WORD_LAST_SERVED: usize = 66;
+pub const WORD_LAST_SERVED: usize = 74;
 
 /// Entries of a covariance matrix: xx, xy, yy.
 pub const COVARIANCE_ENTRIES: usize = 3;
@@ -66,7 +73,8 @@ mod tests {
     /// The numbers that are worked out of others, and that the three last words are the three after the seats.
     #[test]
     fn worked_out() {
-        assert_eq!((STORE_PIXELS, WORDS), (16_384, 67));
+        assert_eq!((STORE_PIXELS, WORDS, OLD_WORDS), (16_384, 75, 67));
+        assert_eq!((SEAT_F, SEAT_F + 1), (OLD_SEAT_WORDS, SEAT_WORDS));
         let last = [WORD_LAST_NUMBER, WORD_LAST_FILLED, WORD_LAST_SERVED];
         assert!(last.into_iter().eq(SEATS * SEAT_WORDS..WORDS));
     }

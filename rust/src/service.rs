@@ -3,10 +3,11 @@
 use crate::error::{outcome, Error};
 use crate::exported;
 use crate::limits::{
-    SEATS, SEAT_HEIGHT, SEAT_JOB, SEAT_STEPS, SEAT_STEPS_LEFT, SEAT_WIDTH, SEAT_WORDS, SEAT_XX,
-    SEAT_XY, SEAT_YY, STORE_PIXELS, WORDS,
+    SEATS, SEAT_F, SEAT_HEIGHT, SEAT_JOB, SEAT_STEPS, SEAT_STEPS_LEFT, SEAT_WIDTH, SEAT_WORDS,
+    SEAT_XX, SEAT_XY, SEAT_YY, STORE_PIXELS, WORDS,
 };
-use crate::shape::{Covariance, Direction, Shape};
+use crate::shape::{Choice, Covariance, Direction, Shape};
+use std::fmt;
 
 /// A job that a service holds, as its record tells it.
 #[derive(Clone, Copy, Debug, PartialEq, Eq)]
@@ -26,6 +27,9 @@ pub struct Job {
     pub width: u32,
     /// The height of its picture.
     pub height: u32,
+    /// The number f that its kernel has, in 1/4096 square pixel: the one that the choice of its submit gave ([`Choice`] says how), and
+    /// the smallest for a job from before a change-over. In a record in order it is any number between the two bounds.
+    pub f: u32,
 }
 
 impl Job {
@@ -46,13 +50,37 @@ impl Job {
             steps_left: word(SEAT_STEPS_LEFT),
             width: word(SEAT_WIDTH),
             height: word(SEAT_HEIGHT),
+            f: word(SEAT_F),
         })
     }
 }
 
-/// A service: its record and its store. The record is 67 words ([`WORDS`]): for each seat its job's number, xx, xy, yy, steps, steps
-/// left, width and height, then the last number given, the seat last filled and the seat last served. Constants name the places:
-/// [`SEAT_JOB`] to [`SEAT_HEIGHT`] within the [`SEAT_WORDS`] of a seat, and [`WORD_LAST_NUMBER`](crate::WORD_LAST_NUMBER),
+/// A change-over that was refused, with the store that it was given: the earlier release can go on with it and with the old words.
+#[derive(Clone, Debug, PartialEq, Eq)]
+pub struct NotChangedOver {
+    /// Why it was refused.
+    pub error: Error,
+    /// The store, as it was.
+    pub store: Vec<u16>,
+}
+
+impl fmt::Display for NotChangedOver {
+    fn fmt(&self, f: &mut fmt::Formatter<'_>) -> fmt::Result {
+        self.error.fmt(f)
+    }
+}
+
+impl std::error::Error for NotChangedOver {}
+
+impl From<NotChangedOver> for Error {
+    fn from(refused: NotChangedOver) -> Error {
+        refused.error
+    }
+}
+
+/// A service: its record and its store. The record is 75 words ([`WORDS`]): for each seat its job's number, xx, xy, yy, steps, steps
+/// left, width, height and f, then the last number given, the seat last filled and the seat last served. Constants name the places:
+/// [`SEAT_JOB`] to [`SEAT_F`] within the [`SEAT_WORDS`] of a seat, and [`WORD_LAST_NUMBER`](crate::WORD_LAST_NUMBER),
 /// [`WORD_LAST_FILLED`](crate::WORD_LAST_FILLED) and [`WORD_LAST_SERVED`](crate::WORD_LAST_SERVED).
 ///
 /// ```
@@ -96,7 +124,70 @@ impl Service {
         Service { words, store }
     }
 
-    /// A service of words and a store that were kept. No word of them is trusted: every call refuses what is not in order with 2.
+    /// Changes a running unit over from the release before, whose records hold no choice: `old_words` are the record that it left,
+    /// [`OLD_WORDS`](crate::OLD_WORDS) words, and `store` is its store. Every field is kept, so each job has its seat, its number, its
+    /// steps left and its picture, numbers go on and so do the turns; each job held gets the smallest f, which it went by before. So
+    /// the jobs finish with the pixels that they would have had, and a job with r steps left still waits for at most 8 × r ticks.
+    ///
+    /// It is called once for a unit, between two calls:
+    /// 1. After a call of the earlier release has ended, call no other. Keep its 67 words and its store as they are. Open nothing.
+    /// 2. Call this with both. `old_words` are only read. The store's pixels are neither read nor written.
+    /// 3. If it is `Ok`, go on with the service that it answers, and throw the old words away: they are those of a moment that is over
+    ///    with the next call. Never change them over a second time.
+    /// 4. If it is an error, nothing has changed: [`NotChangedOver::store`] is the store, and the earlier release can go on with it and
+    ///    with the old words.
+    ///
+    /// To check that it worked, before the next call: [`Service::free_count`] is the earlier release's; words 72 to 74 are the old ones
+    /// 64 to 66; the first eight words of seat i, from 9 × i on, are the old ones from 8 × i on; and the ninth is 0 where the seat is
+    /// empty. The example `change_over` does so.
+    ///
+    /// # Errors
+    /// 2, [`RecordOutOfOrder`](Error::RecordOutOfOrder): the old words are no record in order by the rule of the release before: not 67
+    /// words, one that does not fit, or a field out of its limits. A record of this release is none either. A store of another length
+    /// than [`STORE_PIXELS`] is taken as it is, as by [`Service::with_store`].
+    ///
+    /// ```
+    /// use vokhsaot::{Error, Service, OLD_WORDS};
+    ///
+    /// // Job 3 in seat 0, 5 × 1 pixels, one of its two steps done; its current picture is in the second buffer.
+    /// let mut old_words = [0; OLD_WORDS];
+    /// old_words[..8].copy_from_slice(&[3, 4096, 0, 0, 2, 1, 5, 1]);
+    /// old_words[64] = 3;
+    /// let mut store = vec![0; 16_384];
+    /// store[1024..1029].copy_from_slice(&[0, 400, 800, 400, 0]);
+    ///
+    /// let mut service = Service::change_over(&old_words, store)?;
+    /// assert_eq!(service.tick(), Ok(Some(3)));
+    /// let mut picture = [0; 5];
+    /// service.collect(3, &mut picture)?;
+    /// assert_eq!(picture, [100, 400, 600, 400, 100]);
+    ///
+    /// // Not in order: the last number given is less than the job's. The store comes back.
+    /// old_words[64] = 2;
+    /// let refused = Service::change_over(&old_words, vec![7; 16_384]).unwrap_err();
+    /// assert_eq!(refused.error, Error::RecordOutOfOrder);
+    /// assert_eq!(refused.store, [7; 16_384]);
+    /// # Ok::<(), Error>(())
+    /// ```
+    pub fn change_over(old_words: &[u64], store: Vec<u16>) -> Result<Service, NotChangedOver> {
+        let mut words = vec![0; WORDS];
+        // SAFETY: each pointer stands with the length of its own slice, and they do not overlap.
+        let code = unsafe {
+            exported::vokhsaot_change_over(
+                old_words.as_ptr(),
+                old_words.len(),
+                words.as_mut_ptr(),
+                words.len(),
+            )
+        };
+        match outcome(code) {
+            Ok(()) => Ok(Service { words, store }),
+            Err(error) => Err(NotChangedOver { error, store }),
+        }
+    }
+
+    /// A service of words and a store that were kept. No word of them is trusted: every call refuses what is not in order with 2. A
+    /// record of the release before, of [`OLD_WORDS`](crate::OLD_WORDS) words, is none of these: [`Service::change_over`] takes it.
     pub fn from_parts(words: Vec<u64>, store: Vec<u16>) -> Service {
         Service { words, store }
     }
@@ -111,11 +202,26 @@ impl Service {
         &self.store
     }
 
-    /// Submits a job and answers its number: its picture is copied into a free seat's buffer. Its steps go by
-    /// [`Choice::Smallest`](crate::Choice::Smallest), as do all jobs of the service until its record can hold a choice.
+    /// Submits a job by [`Choice::Binomial`] and answers its number: its picture is copied into a free seat's buffer.
     ///
     /// # Errors
-    /// In checking order:
+    /// 2, 3, 4, 5, 6, 9, 10, 11, 12 and 13, checked in this order; [`Service::submit_by`] says when each occurs.
+    pub fn submit(
+        &mut self,
+        shape: Shape,
+        steps: u32,
+        width: u32,
+        height: u32,
+        picture: &[u16],
+    ) -> Result<u64, Error> {
+        self.submit_by(Choice::default(), shape, steps, width, height, picture)
+    }
+
+    /// Submits a job by a choice and answers its number: its picture is copied into a free seat's buffer, and its seat keeps the f of
+    /// the choice, by which each of its steps goes.
+    ///
+    /// # Errors
+    /// In checking order, the same for each choice:
     /// - 2, [`RecordOutOfOrder`](Error::RecordOutOfOrder): the record is not in order, or the store has not [`STORE_PIXELS`] pixels.
     /// - 3, [`VarianceOutOfRange`](Error::VarianceOutOfRange): a variance of a round or an oval is not a number or lies outside 0 to 64.
     /// - 4, [`NotADirection`](Error::NotADirection): an oval's direction is none: a cosine or sine is not a number or lies outside −1 to
@@ -128,8 +234,22 @@ impl Service {
     ///   the larger of them is more than 4096 × steps.
     /// - 12, [`NoFreeBuffers`](Error::NoFreeBuffers): all eight seats hold jobs: collect or withdraw one.
     /// - 13, [`NumbersUsedUp`](Error::NumbersUsedUp): the last number given is 2^64 − 1: open another service.
-    pub fn submit(
+    ///
+    /// ```
+    /// use vokhsaot::{Choice, Service, Shape};
+    ///
+    /// let spot = [0, 0, 0, 0, 1600, 0, 0, 0, 0];
+    /// let mut service = Service::new();
+    /// let job = service.submit_by(Choice::Smallest, Shape::Round(0.5), 1, 3, 3, &spot)?;
+    /// service.tick()?;
+    /// let mut picture = [0; 9];
+    /// service.collect(job, &mut picture)?;
+    /// assert_eq!(picture, [0, 400, 0, 400, 0, 400, 0, 400, 0]);
+    /// # Ok::<(), vokhsaot::Error>(())
+    /// ```
+    pub fn submit_by(
         &mut self,
+        choice: Choice,
         shape: Shape,
         steps: u32,
         width: u32,
@@ -139,15 +259,16 @@ impl Service {
         let mut number = 0;
         let (words, words_len) = (self.words.as_mut_ptr(), self.words.len());
         let (store, store_len) = (self.store.as_mut_ptr(), self.store.len());
-        let (pixels, pixels_len) = (picture.as_ptr(), picture.len());
+        let (choice, pixels, pixels_len) = (choice.number(), picture.as_ptr(), picture.len());
         // SAFETY: each pointer stands with the length of its own slice, and none of them overlap.
         let code = unsafe {
             match shape {
-                Shape::Matrix { xx, xy, yy } => exported::vokhsaot_submit_matrix(
+                Shape::Matrix { xx, xy, yy } => exported::vokhsaot_submit_matrix_by(
                     words,
                     words_len,
                     store,
                     store_len,
+                    choice,
                     xx,
                     xy,
                     yy,
@@ -158,11 +279,12 @@ impl Service {
                     pixels_len,
                     &mut number,
                 ),
-                Shape::Round(variance) => exported::vokhsaot_submit_round(
+                Shape::Round(variance) => exported::vokhsaot_submit_round_by(
                     words,
                     words_len,
                     store,
                     store_len,
+                    choice,
                     variance,
                     steps,
                     width,
@@ -175,11 +297,12 @@ impl Service {
                     long_variance,
                     short_variance,
                     direction: Direction { cosine, sine },
-                } => exported::vokhsaot_submit_oval(
+                } => exported::vokhsaot_submit_oval_by(
                     words,
                     words_len,
                     store,
                     store_len,
+                    choice,
                     long_variance,
                     short_variance,
                     cosine,
@@ -338,6 +461,7 @@ mod tests {
             steps_left: 5,
             width: 2,
             height: 1,
+            f: 1000,
         };
         assert_eq!(service.jobs(), [left]);
         assert_eq!((service.job(1), service.job(2)), (None, Some(left)));

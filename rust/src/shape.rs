@@ -80,8 +80,8 @@ pub enum Choice {
     /// neighbours wherever some f gives that, as in the binomial kernel 1 2 1, 2 4 2, 1 2 1 that the choice is named after.
     #[default]
     Binomial,
-    /// The smallest f, the larger of |xy| and xx + yy − M, whose kernel can have a hollow centre (a weight of 0). All jobs of a
-    /// [`Service`](crate::Service) go by it.
+    /// The smallest f, the larger of |xy| and xx + yy − M, whose kernel can have a hollow centre (a weight of 0). Jobs from before a
+    /// record held a choice go by it ([`Service::change_over`](crate::Service::change_over)).
     Smallest,
 }
 

@@ -31,7 +31,10 @@ fn names(ending: &str) -> Vec<String> {
 #[test]
 fn examples_print_what_is_stored() {
     let programs = names(".rs");
-    assert_eq!(programs, ["kernels", "service", "smooth_picture"]);
+    assert_eq!(
+        programs,
+        ["change_over", "kernels", "service", "smooth_picture"]
+    );
     assert_eq!(names(".expected"), programs);
     for name in programs {
         let printed = Command::new(program(&name))

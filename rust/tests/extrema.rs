@@ -140,7 +140,7 @@ fn tick(service: &mut Service, seen: &mut Seen) -> Option<u64> {
     Some(number)
 }
 
-/// Pairs of jobs of one shape and step count whose pictures differ by at most d, up to four pairs at a time; jobs are
+/// Pairs of jobs of one shape, step count and choice whose pictures differ by at most d, up to four pairs at a time; jobs are
 /// withdrawn half done, so that seats change hands.
 #[test]
 fn ticks() {
@@ -157,9 +157,10 @@ fn ticks() {
                 let one = random_heights(&mut random, width, height);
                 let gap = random_gap(&mut random);
                 let other = pixels_within(&mut random, &one, gap);
+                let (choice, _) = random.pick(&CHOICES);
                 let numbers = [one, other].map(|picture| {
                     service
-                        .submit(shape, steps, width, height, &picture)
+                        .submit_by(choice, shape, steps, width, height, &picture)
                         .unwrap()
                 });
                 pairs.push((numbers, gap));

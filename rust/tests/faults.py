@@ -1,5 +1,5 @@
 #!/usr/bin/env python3
-"""Twenty-three faults, one at a time, in a copy of the independent program: the comparison has to find each.
+"""Thirty-seven faults, one at a time, in a copy of the independent program: the comparison has to find each.
 
 Usage: faults.py FOLDER, the folder that has libcapi.a. A fault counts as found where the test named beside it fails at a
 comparison, in one of the test files or in the sentences of demand 3; a fault that the copy finds in itself does not.
@@ -60,10 +60,43 @@ FAULTS = [
     ("no choice is the smallest one", "kernel.rs", DEFAULT, DEFAULT_SMALLEST, "pictures"),
     ("a text's pixels are of the smallest choice", "job_text.rs", "    run(\n        Shape::Matrix(job.covariance),\n",
      "    crate::smooth::run_by(\n        crate::kernel::Choice::Smallest,\n        Shape::Matrix(job.covariance),\n", "texts"),
-    ("the service goes by S-2's rule", "service.rs", "pub const CHOICE: Choice = Choice::Smallest;",
-     "pub const CHOICE: Choice = Choice::Binomial;", "service_lists"),
-    ("a job is held to S-2's rule", "lists.rs", "shape_kernel_by(Choice::Smallest, self.shape, self.steps)",
-     "shape_kernel_by(Choice::Binomial, self.shape, self.steps)", "service_lists"),
+    ("a submit that names no choice has the smallest", "service.rs", "named.unwrap_or_default()", "named.unwrap_or(Choice::Smallest)",
+     "service_lists"),
+    ("a submit keeps the smallest f for both choices", "service.rs", "let f = free_number_by(choice, xx",
+     "let f = free_number_by(Choice::Smallest, xx", "service_lists"),
+    ("a tick goes by the shape's f and not by the seat's", "service.rs", "let kernel = slot.kernel(record.rules);",
+     "let kernel = kernel_by(Choice::default(), slot.covariance(), slot.steps);", "service_lists"),
+    ("a job from before the change-over is held to S-2's rule", "lists.rs", "(Rules::Old, _) => Choice::Smallest,",
+     "(Rules::Old, _) => Choice::Binomial,", "change_over"),
+    ("a job is held to S-2's rule whatever its submit named", "lists.rs", "(Rules::New, Some(named)) => named,",
+     "(Rules::New, Some(_)) => Choice::Binomial,", "service_lists"),
+    # Which f is in order.
+    ("only the f of a choice is in order", "service.rs", "        && slot.kernel(rules).is_ok()\n",
+     "        && slot.kernel(rules).is_ok()\n        && (rules == Rules::Old || Choice::ALL.iter().any(|choice| slot.kernel(rules) == "
+     "kernel_by(*choice, slot.covariance(), slot.steps)))\n", "service_lists"),
+    ("an empty seat may keep an f", "service.rs", "            *slot == Slot::default()\n", "            Slot { f: 0, ..*slot } == Slot::default()\n",
+     "service_lists"),
+    ("f may be one more than the smaller variance", "kernel.rs", "any(|weight| *weight < 0)", "any(|weight| *weight < -2)", "service_lists"),
+    # The change-over.
+    ("the change-over writes the other f", "service.rs", "slot.f = slot.smallest_f();",
+     "slot.f = unsigned(free_number_by(Choice::Binomial, slot.xx.into(), slot.xy.into(), slot.yy.into(), UNITS * i64::from(slot.steps)));",
+     "change_over"),
+    ("the change-over writes f 0", "service.rs", "slot.f = slot.smallest_f();", "slot.f = slot.smallest_f() * 0;", "change_over"),
+    ("the change-over begins half done jobs again", "service.rs", "slot.f = slot.smallest_f();",
+     "slot.f = slot.smallest_f();\n        slot.steps_left = slot.steps;", "change_over"),
+    ("the change-over sets the named seats as at an opening", "service.rs", "    changed.rules = Rules::New;\n",
+     "    changed.rules = Rules::New;\n    (changed.last_filled, changed.last_served) = (7, 7);\n", "change_over"),
+    ("the change-over moves the turn back by a seat", "service.rs", "    changed.rules = Rules::New;\n",
+     "    changed.rules = Rules::New;\n    changed.last_served = (changed.last_served + 7) % 8;\n", "change_over"),
+    ("numbers begin again after the largest one held", "service.rs", "    changed.rules = Rules::New;\n",
+     "    changed.rules = Rules::New;\n    changed.last_number = changed.slots.iter().map(|slot| slot.number).max().unwrap_or(0);\n",
+     "change_over"),
+    ("the change-over repairs a named seat", "service.rs", "    check_record(record)?;\n    let mut changed = *record;\n",
+     "    let repaired = Record { last_served: record.last_served % 8, ..*record };\n    let record = &repaired;\n"
+     "    check_record(record)?;\n    let mut changed = *record;\n", "change_over"),
+    ("the change-over checks 9 before 2", "words.rs", "    let old = record_of(Rules::Old, old_words).ok_or(SERVICE_NOT_IN_ORDER)?;\n",
+     "    require(words.len() == record_words(Rules::New), BAD_LENGTH)?;\n"
+     "    let old = record_of(Rules::Old, old_words).ok_or(SERVICE_NOT_IN_ORDER)?;\n", "change_over"),
 ]
 
 

@@ -7,16 +7,18 @@
 
 use crate::error::refusal_text;
 use crate::ledger::{first_difference, pixel_text, Handed, Job, Ledger, Wait};
-use crate::list::{Call, Store, Submission};
+use crate::list::{Call, Start, Submission};
 use crate::model::Model;
 use crate::numbers::counted;
 use crate::rules::{Difference, Rule};
-use crate::services::{Opening, Service};
+use crate::services::{Opening, Service, Unit};
 use crate::watch;
+use reference::service::Rules;
+use reference::words::{record_words, slot_words};
 use std::cell::Cell;
 use std::panic::{self, AssertUnwindSafe};
 use std::sync::Once;
-use vokhsaot::{Error, BUFFER_PIXELS, SEATS, SEAT_WORDS, STORE_PIXELS, WORDS};
+use vokhsaot::{Error, BUFFER_PIXELS, SEATS, STORE_PIXELS};
 
 /// The answer to a call that was not refused.
 #[derive(Clone, Copy, Debug, PartialEq, Eq)]
@@ -24,6 +26,8 @@ pub enum Answer {
     Job(u64),
     Idle,
     Free(u32),
+    /// Changed over.
+    Done,
 }
 
 /// An answer, or a refusal.
@@ -35,6 +39,7 @@ pub fn answer_text(answer: Answered) -> String {
         Ok(Answer::Job(number)) => format!("job {number}"),
         Ok(Answer::Idle) => "idle".to_owned(),
         Ok(Answer::Free(count)) => count.to_string(),
+        Ok(Answer::Done) => "done".to_owned(),
         Err(refusal) => refusal_text(refusal),
     }
 }
@@ -70,6 +75,8 @@ pub struct HandedOver {
 #[derive(Clone, Copy, Debug, Default, PartialEq, Eq)]
 pub struct Counts {
     pub calls: u64,
+    /// Calls by the old rules, which the independent program made.
+    pub old: u64,
     /// Calls that were refused, as was due or not.
     pub refused: u64,
     pub answers: u64,
@@ -80,6 +87,7 @@ pub struct Counts {
 impl Counts {
     pub fn add(&mut self, other: Counts) {
         self.calls += other.calls;
+        self.old += other.old;
         self.refused += other.refused;
         self.answers += other.answers;
         self.jobs += other.jobs;
@@ -108,15 +116,16 @@ struct Lent<'a> {
 const UNWRITTEN: u16 = 0x5a5a;
 
 impl<'a> Judge<'a> {
-    /// Opens the service over a store, and judges the opening itself.
-    pub fn new(opening: Opening<'a>, store: Store) -> (Judge<'a>, Vec<Difference>) {
-        let opened = answered(|| opening(store.pixels()));
+    /// Opens the service, and judges the opening itself.
+    pub fn new(opening: Opening<'a>, start: Start) -> (Judge<'a>, Vec<Difference>) {
+        let Start { rules, store } = start;
+        let opened = answered(|| opening(rules, store.pixels()));
         let is_open = opened.is_some();
         let mut judge = Judge {
             opening,
             service: opened.unwrap_or_else(|| Box::new(Closed)),
-            model: Model::open(store.pixels()),
-            ledger: Ledger::default(),
+            model: Model::open(rules, store.pixels()),
+            ledger: Ledger::new(rules),
             counts: Counts::default(),
         };
         let differences = match is_open {
@@ -143,8 +152,8 @@ impl<'a> Judge<'a> {
     }
 
     fn judge_opening(&mut self) -> Vec<Difference> {
-        let mut differences = self.compare_state(Rule::Opening, Rule::Opening);
-        self.judge_free(true, &mut differences);
+        let mut differences = self.compare_state(|_| Rule::Opening, Rule::Opening);
+        self.judge_free(Rule::FreeBuffers, true, &mut differences);
         differences
     }
 
@@ -157,8 +166,10 @@ impl<'a> Judge<'a> {
         let mut given_pixels = lent.pixels.clone();
         let mut due_pixels = lent.pixels.clone();
         let before = self.service.words().to_vec();
+        let is_old = self.ledger.rules() == Rules::Old && *call != Call::ChangeOver;
         let due = on_model(&mut self.model, call, &mut due_pixels);
         self.counts.calls += 1;
+        self.counts.old += u64::from(is_old);
         self.counts.answers += 1;
         watch::number(self.counts.calls);
         let answer = answered(|| on_service(self.service.as_mut(), call, &mut given_pixels));
@@ -175,12 +186,22 @@ impl<'a> Judge<'a> {
         let is_due = answer == Some(due);
         if is_due {
             let (record, store) = state_rules(call, due);
+            let is_f_alone = self.is_f_alone();
+            let record = |place| match (call, due) {
+                (Call::ChangeOver, Ok(_)) => changed_word_rule(place),
+                (Call::Submit(_), Ok(_)) if is_f_alone => Rule::SubmitF,
+                _ => record,
+            };
             differences.extend(self.compare_state(record, store));
         } else if matches!(answer, Some(Err(_))) && self.service.words() != before {
             let detail = words_text(self.service.words(), &before);
             differences.push(Difference::new(Rule::RefusalChangesNothing, detail));
         }
-        let free = self.judge_free(is_due, &mut differences);
+        let free_rule = match call {
+            Call::ChangeOver => Rule::FreeAcross,
+            _ => Rule::FreeBuffers,
+        };
+        let free = self.judge_free(free_rule, is_due, &mut differences);
         self.settle(&differences);
         Judged {
             answer,
@@ -249,6 +270,7 @@ impl<'a> Judge<'a> {
             }
             Call::Withdraw(job) => self.ledger.withdraw(*job, number),
             Call::Free => (Vec::new(), None),
+            Call::ChangeOver => (self.ledger.change_over(answer.map(|_| ())), None),
         };
         differences.extend(found);
         left
@@ -291,12 +313,12 @@ impl<'a> Judge<'a> {
         }
     }
 
-    /// A service of the same kind opened for the job only.
+    /// A service of the same kind opened for the job only, by the rules that its submit followed.
     fn judge_alone(&self, job: &Job, picture: &[u16]) -> Option<Difference> {
         let differs = |detail: String| Some(Difference::new(Rule::LoneService, detail));
         let Submission { steps, width, .. } = job.submission;
         let alone = answered(|| {
-            let mut service = (self.opening)(vec![UNWRITTEN; STORE_PIXELS]);
+            let mut service = (self.opening)(job.rules, vec![UNWRITTEN; STORE_PIXELS]);
             let number = service.submit(job.submission.lending(&job.picture))?;
             for _ in 0..steps {
                 service.tick()?;
@@ -318,12 +340,23 @@ impl<'a> Judge<'a> {
         }
     }
 
-    /// The words and the store beside the independent service's.
-    fn compare_state(&self, record: Rule, store: Rule) -> Vec<Difference> {
+    /// Whether the record has another f in a seat than the independent service's, and nothing else.
+    fn is_f_alone(&self) -> bool {
+        let places = differing(self.service.words(), &self.model.words());
+        let is_f = |place: &usize| changed_word_rule(*place) == Rule::ChangedF;
+        !places.is_empty() && places.iter().all(is_f)
+    }
+
+    /// The words and the store beside the independent service's. Which sentence a word breaks its place tells.
+    fn compare_state(&self, record: impl Fn(usize) -> Rule, store: Rule) -> Vec<Difference> {
         let mut differences = Vec::new();
         let (words, due) = (self.service.words(), self.model.words());
-        if words != due {
-            differences.push(Difference::new(record, words_text(words, &due)));
+        let mut rules: Vec<Rule> = differing(words, &due).into_iter().map(&record).collect();
+        rules.sort();
+        rules.dedup();
+        for rule in rules {
+            let detail = words_text_of(words, &due, |place| record(place) == rule);
+            differences.push(Difference::new(rule, detail));
         }
         if self.service.store() != self.model.store() {
             let detail = store_text(self.service.store(), self.model.store(), &due);
@@ -336,6 +369,7 @@ impl<'a> Judge<'a> {
     /// where that one is in the same state.
     fn judge_free(
         &mut self,
+        rule: Rule,
         is_same: bool,
         differences: &mut Vec<Difference>,
     ) -> Option<Result<u32, Error>> {
@@ -349,15 +383,13 @@ impl<'a> Judge<'a> {
         match free {
             None => differences.push(no_answer("the free count")),
             Some(count) => {
-                differences.extend(self.ledger.free(count));
+                differences.extend(self.ledger.free(count, rule));
                 let due = self.model.free();
-                let told = differences
-                    .iter()
-                    .any(|found| found.rule == Rule::FreeBuffers);
+                let told = differences.iter().any(|found| found.rule == rule);
                 if is_same && count != due && !told {
                     let text = |count: Result<u32, Error>| short_text(count.map(Answer::Free));
                     let detail = format!("{}; {} was due", text(count), text(due));
-                    differences.push(Difference::new(Rule::FreeBuffers, detail));
+                    differences.push(Difference::new(rule, detail));
                 }
             }
         }
@@ -381,6 +413,7 @@ fn on_model(model: &mut Model, call: &Call, pixels: &mut [u16]) -> Answered {
         Call::Collect { number, .. } => model.collect(*number, pixels).map(Answer::Job),
         Call::Withdraw(number) => model.withdraw(*number).map(Answer::Job),
         Call::Free => model.free().map(Answer::Free),
+        Call::ChangeOver => model.change_over().map(|()| Answer::Done),
     }
 }
 
@@ -391,6 +424,7 @@ fn on_service(service: &mut dyn Service, call: &Call, pixels: &mut [u16]) -> Ans
         Call::Collect { number, .. } => service.collect(*number, pixels).map(Answer::Job),
         Call::Withdraw(number) => service.withdraw(*number).map(Answer::Job),
         Call::Free => service.free().map(Answer::Free),
+        Call::ChangeOver => service.change_over().map(|()| Answer::Done),
     }
 }
 
@@ -429,11 +463,11 @@ fn no_answer(what: &str) -> Difference {
 struct Closed;
 
 impl Service for Closed {
-    fn within(&self) -> &vokhsaot::Service {
+    fn within(&self) -> &Unit {
         panic!("the service did not open")
     }
 
-    fn within_mut(&mut self) -> &mut vokhsaot::Service {
+    fn within_mut(&mut self) -> &mut Unit {
         panic!("the service did not open")
     }
 
@@ -450,6 +484,8 @@ impl Service for Closed {
 fn answer_rule(call: &Call, answer: Answered, due: Answered) -> Rule {
     match (call, answer, due) {
         (Call::Free, ..) => Rule::FreeBuffers,
+        (Call::ChangeOver, _, Ok(_)) => Rule::ChangeAccepted,
+        (Call::ChangeOver, _, Err(_)) => Rule::ChangeRefused,
         (_, Err(_), Err(_)) => Rule::RefusalOrder,
         (Call::Submit(_) | Call::Withdraw(_), Ok(_), Err(_)) => Rule::NotRefused,
         (Call::Collect { .. }, Ok(_), Err(refusal)) if refusal != Error::StepsAreLeft => {
@@ -477,6 +513,8 @@ fn state_rules(call: &Call, due: Answered) -> (Rule, Rule) {
         (Call::Tick(_), _) => (Rule::TickRecord, Rule::TickStore),
         (Call::Free, _) => (Rule::CountChangesNothing, Rule::CountChangesNothing),
         (Call::Collect { .. }, _) => (Rule::CollectRecord, Rule::LeaveStore),
+        // Of its record's words each has a sentence of its own.
+        (Call::ChangeOver, _) => (Rule::ChangedFields, Rule::ChangeStore),
         _ => (Rule::WithdrawRecord, Rule::LeaveStore),
     }
 }
@@ -493,59 +531,98 @@ fn changed_picture(given: &[u16], due: &[u16]) -> Difference {
     Difference::new(Rule::RefusalChangesNothing, detail)
 }
 
+/// By which rules a record of so many words is; where it is none, as by the new ones.
+fn rules_of(count: usize) -> Rules {
+    match count == record_words(Rules::Old) {
+        true => Rules::Old,
+        false => Rules::New,
+    }
+}
+
+/// The seat and the field of a word, by rules; none after the seats.
+fn seat_place(rules: Rules, place: usize) -> Option<(usize, usize)> {
+    let size = slot_words(rules);
+    (place < SEATS * size).then_some((place / size, place % size))
+}
+
+/// The sentence that a word of the record breaks which a change-over left.
+fn changed_word_rule(place: usize) -> Rule {
+    match seat_place(Rules::New, place) {
+        None => Rule::ChangedTurn,
+        Some((_, FIELD_OF_F)) => Rule::ChangedF,
+        Some(_) => Rule::ChangedFields,
+    }
+}
+
+/// The words of a seat; the last is there by the new rules alone.
+const FIELDS: [&str; 9] = [
+    "number",
+    "xx",
+    "xy",
+    "yy",
+    "steps",
+    "steps left",
+    "width",
+    "height",
+    "f",
+];
+const FIELD_OF_F: usize = 8;
+
 /// A word of the record by its name.
-fn word_name(place: usize) -> String {
-    const FIELDS: [&str; SEAT_WORDS] = [
-        "number",
-        "xx",
-        "xy",
-        "yy",
-        "steps",
-        "steps left",
-        "width",
-        "height",
-    ];
-    const NAMED: [&str; WORDS - SEATS * SEAT_WORDS] = [
+fn word_name(rules: Rules, place: usize) -> String {
+    const NAMED: [&str; 3] = [
         "the last number given",
         "the seat last filled",
         "the seat last served",
     ];
-    match place.checked_sub(SEATS * SEAT_WORDS) {
-        None => format!(
-            "seat {}'s {}",
-            place / SEAT_WORDS,
-            FIELDS[place % SEAT_WORDS]
-        ),
-        Some(named) => NAMED[named].to_owned(),
+    match seat_place(rules, place) {
+        Some((seat, field)) => format!("seat {seat}'s {}", FIELDS[field]),
+        None => NAMED[place - SEATS * slot_words(rules)].to_owned(),
     }
 }
 
 /// A word's value: of xx, xy and yy with their sign.
-fn word_value(place: usize, word: u64) -> String {
-    let is_entry = place < SEATS * SEAT_WORDS && (1..=3).contains(&(place % SEAT_WORDS));
+fn word_value(rules: Rules, place: usize, word: u64) -> String {
+    let field = seat_place(rules, place).map(|(_, field)| field);
+    let is_entry = field.is_some_and(|field| (1..=3).contains(&field));
     match u32::try_from(word) {
         Ok(bits) if is_entry => (bits as i32).to_string(),
         _ => word.to_string(),
     }
 }
 
+/// The places of the words that differ; the first where one has more words than the other.
+fn differing(words: &[u64], due: &[u64]) -> Vec<usize> {
+    if words.len() != due.len() {
+        return vec![0];
+    }
+    let places = words.iter().zip(due).enumerate();
+    places
+        .filter(|(_, (one, other))| one != other)
+        .map(|(place, _)| place)
+        .collect()
+}
+
 /// The first words that differ.
 fn words_text(words: &[u64], due: &[u64]) -> String {
+    words_text_of(words, due, |_| true)
+}
+
+/// The first that differ of some words.
+fn words_text_of(words: &[u64], due: &[u64], is_one: impl Fn(usize) -> bool) -> String {
     /// More would not be read.
     const MOST: usize = 3;
     if words.len() != due.len() {
         return format!("there are {} words (due: {})", words.len(), due.len());
     }
-    let differing = words.iter().zip(due).enumerate();
-    let differing: Vec<usize> = differing
-        .filter(|(_, (one, other))| one != other)
-        .map(|(place, _)| place)
-        .collect();
+    let rules = rules_of(words.len());
+    let mut differing = differing(words, due);
+    differing.retain(|place| is_one(*place));
     let texts = differing.iter().take(MOST).map(|place| {
-        let value = |words: &[u64]| word_value(*place, words[*place]);
+        let value = |words: &[u64]| word_value(rules, *place, words[*place]);
         format!(
             "{} is {} (due: {})",
-            word_name(*place),
+            word_name(rules, *place),
             value(words),
             value(due)
         )
@@ -565,7 +642,7 @@ fn store_text(store: &[u16], due: &[u16], words: &[u64]) -> String {
     };
     let (buffer, place_there) = (place / BUFFER_PIXELS, place % BUFFER_PIXELS);
     let seat = buffer / 2;
-    let job = match words[seat * SEAT_WORDS] {
+    let job = match words[seat * slot_words(rules_of(words.len()))] {
         0 => "empty".to_owned(),
         number => format!("job {number}"),
     };
@@ -591,6 +668,7 @@ impl Verdict {
     pub fn text(&self) -> String {
         let Counts {
             calls,
+            old,
             refused,
             answers,
             jobs,
@@ -613,10 +691,14 @@ impl Verdict {
                 wait.percent()
             ),
         };
+        let old = match old {
+            0 => String::new(),
+            old => format!("; {old} by the old rules, made by the independent program"),
+        };
         let calls = counted(calls, "call");
         let answers = counted(answers, "answer");
         let jobs = counted(jobs, "job");
-        format!("verdict: {head}: {calls} ({refused} refused), {answers} judged, {jobs} handed over, {wait}")
+        format!("verdict: {head}: {calls} ({refused} refused{old}), {answers} judged, {jobs} handed over, {wait}")
     }
 }
 
@@ -625,6 +707,7 @@ mod tests {
     use super::*;
     use crate::list;
     use crate::services::{proved, Submitted};
+    use vokhsaot::{WORD_LAST_FILLED, WORD_LAST_SERVED};
 
     /// What is wrong with a service; the practice services have other faults.
     #[derive(Clone, Copy, PartialEq)]
@@ -640,10 +723,14 @@ mod tests {
         SkipsNumber,
         BusyWhenDone,
         ForgetsTurn,
+        ChangeRefuses,
+        ChangeClears,
+        ChangeMiscounts,
+        ChangeKeepsWords,
     }
 
     struct Bent {
-        inner: vokhsaot::Service,
+        inner: Unit,
         bend: Bend,
         /// The words after a free count that changes them, and whether there was one.
         moved: Vec<u64>,
@@ -651,41 +738,40 @@ mod tests {
     }
 
     impl Bent {
-        fn open(bend: Bend, store: Vec<u16>) -> Bent {
-            let mut inner = vokhsaot::Service::with_store(store);
-            if bend == Bend::Opening {
-                let mut words = inner.words().to_vec();
-                words[65] = 0;
-                inner = vokhsaot::Service::from_parts(words, inner.store().to_vec());
-            }
+        fn open(bend: Bend, rules: Rules, store: Vec<u16>) -> Bent {
+            let inner = Unit::open(rules, store);
             let mut moved = inner.words().to_vec();
-            moved[66] = 0;
-            Bent {
+            *moved.last_mut().unwrap() = 0;
+            let mut bent = Bent {
                 inner,
                 bend,
                 moved,
                 has_moved: Cell::new(false),
+            };
+            if bend == Bend::Opening {
+                bent.edit(|words, _| words[WORD_LAST_FILLED] = 0);
             }
+            bent
         }
 
         fn edit(&mut self, edit: impl Fn(&mut [u64], &mut [u16])) {
             let (mut words, mut store) = (self.inner.words().to_vec(), self.inner.store().to_vec());
             edit(&mut words, &mut store);
-            self.inner = vokhsaot::Service::from_parts(words, store);
+            self.inner = Unit::Library(vokhsaot::Service::from_parts(words, store));
         }
     }
 
     impl Service for Bent {
-        fn within(&self) -> &vokhsaot::Service {
+        fn within(&self) -> &Unit {
             &self.inner
         }
 
-        fn within_mut(&mut self) -> &mut vokhsaot::Service {
+        fn within_mut(&mut self) -> &mut Unit {
             &mut self.inner
         }
 
         fn submit(&mut self, submitted: Submitted) -> Result<u64, Error> {
-            let number = Service::submit(&mut self.inner, submitted)?;
+            let number = self.inner.submit(submitted)?;
             if self.bend == Bend::CopiesLess {
                 self.edit(|_, store| store[0] = 9);
             }
@@ -696,10 +782,10 @@ mod tests {
             assert!(self.bend != Bend::Panics, "no refusal has this number");
             let answer = self.inner.tick()?;
             if self.bend == Bend::IdleMoves && answer.is_none() {
-                self.edit(|words, _| words[66] = (words[66] + 1) % 8);
+                self.edit(|words, _| words[WORD_LAST_SERVED] = (words[WORD_LAST_SERVED] + 1) % 8);
             }
             if self.bend == Bend::ForgetsTurn {
-                self.edit(|words, _| words[66] = 7);
+                self.edit(|words, _| words[WORD_LAST_SERVED] = 7);
             }
             Ok(match self.bend {
                 Bend::BusyWhenDone => answer.or(Some(1)),
@@ -726,7 +812,24 @@ mod tests {
                 "no refusal has this number"
             );
             self.has_moved.set(self.bend == Bend::CountMoves);
-            self.inner.free_count()
+            let is_bent =
+                self.bend == Bend::ChangeMiscounts && rules_of(self.words().len()) == Rules::New;
+            self.inner.free().map(|count| count + u32::from(is_bent))
+        }
+
+        fn change_over(&mut self) -> Result<(), Error> {
+            let kept = self.inner.clone();
+            self.inner.change_over()?;
+            match self.bend {
+                Bend::ChangeRefuses => {
+                    self.inner = kept;
+                    return Err(Error::RecordOutOfOrder);
+                }
+                Bend::ChangeKeepsWords => self.inner = kept,
+                Bend::ChangeClears => self.edit(|_, store| store[0] = 9),
+                _ => {}
+            }
+            Ok(())
         }
 
         fn words(&self) -> &[u64] {
@@ -738,20 +841,35 @@ mod tests {
     }
 
     const LIST: &str = "\
+rules new
 submit matrix 4096 0 0 steps 1 size 2 1 pixels 0 1
 submit matrix 4096 0 0 steps 1 size 2 1 pixels 0 1
 tick 3
 collect 1
 withdraw 2
+change over
+";
+
+    const CHANGE: &str = "\
+submit matrix 4096 0 0 steps 2 size 2 1 pixels 0 1
+tick
+change over
+tick
+collect 1
+change over
 ";
 
     /// The first difference of a list, with the number of its call.
     fn first(opening: Opening) -> Option<(u64, Difference)> {
-        let (mut judge, differences) = Judge::new(opening, Store::Zeros);
+        first_in(LIST, opening)
+    }
+
+    fn first_in(list: &str, opening: Opening) -> Option<(u64, Difference)> {
+        let list = list::read(list, &|name| Err(name.to_owned())).unwrap();
+        let (mut judge, differences) = Judge::new(opening, list.start);
         if let Some(found) = differences.into_iter().next() {
             return Some((0, found));
         }
-        let list = list::read(LIST, &|name| Err(name.to_owned())).unwrap();
         for line in list.lines {
             for _ in 0..line.call.times() {
                 let judged = judge.call(&line.call);
@@ -766,14 +884,75 @@ withdraw 2
     #[test]
     fn nothing_of_the_proved_service() {
         assert_eq!(first(&proved), None);
+        assert_eq!(first_in(CHANGE, &proved), None);
+    }
+
+    /// What a change-over leaves wrong beside its words, which the services to practise on have.
+    #[test]
+    fn each_difference_of_a_change_over() {
+        for (bend, rule, detail) in [
+            (
+                Bend::ChangeRefuses,
+                Rule::ChangeAccepted,
+                "refused (2); by the list accepted was due",
+            ),
+            (
+                Bend::ChangeClears,
+                Rule::ChangeStore,
+                "buffer 0 (seat 0, job 1): pixel 0 is 9 (due: 0), the first of 1 that differ",
+            ),
+            (
+                Bend::ChangeMiscounts,
+                Rule::FreeAcross,
+                "15; 14 are free with 1 job held",
+            ),
+            (
+                Bend::ChangeKeepsWords,
+                Rule::ChangedFields,
+                "there are 67 words (due: 75)",
+            ),
+        ] {
+            let opening =
+                |rules, store| -> Box<dyn Service> { Box::new(Bent::open(bend, rules, store)) };
+            let expected = Difference::new(rule, detail);
+            assert_eq!(first_in(CHANGE, &opening), Some((3, expected)));
+            // The list goes on by the rules that the service is left with.
+            let list = list::read(CHANGE, &|name| Err(name.to_owned())).unwrap();
+            let (mut judge, _) = Judge::new(&opening, list.start);
+            for line in &list.lines {
+                judge.call(&line.call);
+            }
+            assert_eq!(judge.counts().calls, 6);
+        }
+    }
+
+    /// Each word that a change-over leaves wrong by the sentence that is about it.
+    #[test]
+    fn words_of_a_change_over() {
+        let fields = [Rule::ChangedFields; 8];
+        let seat = [&fields[..], &[Rule::ChangedF]].concat();
+        let all = [seat.repeat(SEATS), vec![Rule::ChangedTurn; 3]].concat();
+        let found: Vec<Rule> = (0..vokhsaot::WORDS).map(changed_word_rule).collect();
+        assert_eq!(found, all);
+        let name = |place| word_name(Rules::New, place);
+        assert_eq!([name(8), name(71)], ["seat 0's f", "seat 7's f"]);
+        assert_eq!(
+            [name(9), name(74)],
+            ["seat 1's number", "the seat last served"]
+        );
+        let old = |place| word_name(Rules::Old, place);
+        assert_eq!(
+            [old(8), old(66)],
+            ["seat 1's number", "the seat last served"]
+        );
     }
 
     #[test]
     fn a_service_that_does_not_open() {
-        let opening = |_| -> Box<dyn Service> { panic!("a refusal of no number") };
+        let opening = |_, _| -> Box<dyn Service> { panic!("a refusal of no number") };
         assert_eq!(first(&opening), Some((0, no_answer("the opening"))));
         // Calls go on, and have no answer.
-        let (mut judge, _) = Judge::new(&opening, Store::Zeros);
+        let (mut judge, _) = Judge::new(&opening, Start::USUAL);
         let judged = judge.call(&Call::Tick(1));
         assert_eq!((judged.answer, judged.free), (None, None));
         assert_eq!(judged.differences[0], no_answer("the call"));
@@ -849,7 +1028,8 @@ withdraw 2
                 "job 3; by the list job 2 was due",
             ),
         ] {
-            let opening = |store| -> Box<dyn Service> { Box::new(Bent::open(bend, store)) };
+            let opening =
+                |rules, store| -> Box<dyn Service> { Box::new(Bent::open(bend, rules, store)) };
             let expected = Difference::new(rule, detail);
             assert_eq!(first(&opening), Some((call, expected)));
         }
@@ -869,6 +1049,7 @@ withdraw 2
         );
         verdict.counts = Counts {
             calls: 1,
+            old: 0,
             refused: 0,
             answers: 2,
             jobs: 1,
@@ -880,6 +1061,10 @@ withdraw 2
         });
         let good = "verdict: good: 1 call (0 refused), 2 answers judged, 1 job handed over, longest wait 1 of at most 24 ticks (5 %)";
         assert_eq!((verdict.text().as_str(), verdict.is_good()), (good, true));
+        verdict.counts.old = 1;
+        let old = "verdict: good: 1 call (0 refused; 1 by the old rules, made by the independent program), 2 answers judged, 1 job handed over, longest wait 1 of at most 24 ticks (5 %)";
+        assert_eq!((verdict.text().as_str(), verdict.is_good()), (old, true));
+        verdict.counts.old = 0;
         verdict.counts.differences = 3;
         verdict.first = Some("call 1, line 7".to_owned());
         let bad = "verdict: BAD, 3 differences, the first at call 1, line 7: 1 call (0 refused), 2 answers judged, 1 job handed over, longest wait 1 of at most 24 ticks (5 %)";

@@ -6,12 +6,13 @@ use crate::list::Submission;
 use crate::model::{choice_of, shape_of};
 use crate::numbers::counted;
 use crate::rules::{Difference, Rule};
-use crate::services::JOB_CHOICE;
+use crate::services::choice_by;
 use reference::kernel::Kernel;
+use reference::service::Rules;
 use reference::shape::{covariance, shape_kernel_by};
 use reference::smooth::rounded_run;
 use std::collections::{BTreeMap, HashSet};
-use vokhsaot::{Error, SEATS};
+use vokhsaot::{Choice, Error, SEATS};
 
 /// The most ticks that a step takes.
 const TICKS_PER_STEP: u64 = SEATS as u64;
@@ -20,26 +21,40 @@ const TICKS_PER_STEP: u64 = SEATS as u64;
 #[derive(Clone, Debug)]
 pub struct Job {
     pub submission: Submission,
+    /// By which rules it was submitted, and so what choice it has.
+    pub rules: Rules,
     pub picture: Vec<u16>,
     /// Ticks that answered its number.
     served: u32,
     /// Ticks of the list at its submit, and at each tick that served it.
     moments: Vec<u64>,
-    /// By this tick of the list it has to be finished.
+    /// By this tick of the list it has to be finished, and by which rules the service went where that counts from.
     deadline: u64,
+    counts_from: Rules,
 }
 
 impl Job {
-    fn new(submission: &Submission, picture: Vec<u16>, ticks: u64) -> Job {
+    fn new(submission: &Submission, rules: Rules, picture: Vec<u16>, ticks: u64) -> Job {
         let mut job = Job {
             submission: submission.clone(),
+            rules,
             picture,
             served: 0,
             moments: Vec::new(),
             deadline: u64::MAX,
+            counts_from: rules,
         };
-        job.note(ticks);
+        job.note(ticks, rules);
         job
+    }
+
+    /// The choice of f that its pixels are held to, from its submit alone.
+    fn choice(&self) -> Choice {
+        choice_by(self.rules, self.submission.choice)
+    }
+
+    fn kernel(&self) -> Option<Kernel> {
+        kernel_of(&self.submission, self.choice())
     }
 
     pub fn steps_left(&self) -> u32 {
@@ -51,10 +66,13 @@ impl Job {
     }
 
     /// A place from which the wait counts: the first one with so many steps left.
-    fn note(&mut self, ticks: u64) {
+    fn note(&mut self, ticks: u64, rules: Rules) {
         self.moments.push(ticks);
-        let allowed = TICKS_PER_STEP * u64::from(self.steps_left());
-        self.deadline = self.deadline.min(ticks + allowed);
+        let deadline = ticks + TICKS_PER_STEP * u64::from(self.steps_left());
+        if deadline < self.deadline {
+            self.deadline = deadline;
+            self.counts_from = rules;
+        }
     }
 
     /// The tick after its submit by which it was finished.
@@ -82,10 +100,10 @@ impl Job {
     }
 }
 
-/// The kernel that a job's pixels are held to, where there is one.
-fn kernel_of(submission: &Submission) -> Option<Kernel> {
+/// The kernel of a submit by a choice, where there is one.
+fn kernel_of(submission: &Submission, choice: Choice) -> Option<Kernel> {
     let Submission { shape, steps, .. } = *submission;
-    shape_kernel_by(choice_of(JOB_CHOICE), shape_of(shape), steps).ok()
+    shape_kernel_by(choice_of(choice), shape_of(shape), steps).ok()
 }
 
 /// Ticks that a job waited, and the most that it is promised.
@@ -126,8 +144,9 @@ pub struct Handed {
 }
 
 /// A list so far.
-#[derive(Default)]
 pub struct Ledger {
+    /// By which rules the next call goes: the old ones from such an opening on, until a change-over is accepted.
+    rules: Rules,
     held: BTreeMap<u64, Job>,
     given: HashSet<u64>,
     ticks: u64,
@@ -135,6 +154,20 @@ pub struct Ledger {
 }
 
 impl Ledger {
+    pub fn new(rules: Rules) -> Ledger {
+        Ledger {
+            rules,
+            held: BTreeMap::new(),
+            given: HashSet::new(),
+            ticks: 0,
+            longest: None,
+        }
+    }
+
+    pub fn rules(&self) -> Rules {
+        self.rules
+    }
+
     pub fn held(&self, number: u64) -> Option<&Job> {
         self.held.get(&number)
     }
@@ -170,7 +203,8 @@ impl Ledger {
         if let Some((_, refusal)) = first {
             return Some(*refusal);
         }
-        if kernel_of(submission).is_none() {
+        let choice = choice_by(self.rules, submission.choice);
+        if kernel_of(submission, choice).is_none() {
             return Some(Error::NoKernel);
         }
         let all_given = self.given.len() as u64 == u64::MAX;
@@ -192,7 +226,7 @@ impl Ledger {
                 let detail = format!("job {number} was accepted before");
                 differences.push(Difference::new(Rule::NumberTwice, detail));
             }
-            let job = Job::new(submission, picture.to_vec(), self.ticks);
+            let job = Job::new(submission, self.rules, picture.to_vec(), self.ticks);
             self.held.insert(number, job);
         }
         differences
@@ -255,10 +289,10 @@ impl Ledger {
             _ => {}
         }
         if let Ok(Some(number)) = answer {
-            let ticks = self.ticks;
+            let (ticks, rules) = (self.ticks, self.rules);
             if let Some(job) = self.held.get_mut(&number) {
                 job.served += 1;
-                job.note(ticks);
+                job.note(ticks, rules);
                 if job.is_finished() {
                     self.longest = Wait::longer(self.longest, job.longest_wait());
                 }
@@ -275,7 +309,11 @@ impl Ledger {
             if !job.is_finished() && self.ticks >= job.deadline {
                 let left = counted(job.steps_left().into(), "step");
                 let detail = format!("job {number} has {left} left after all its ticks");
-                differences.push(Difference::new(Rule::Wait, detail));
+                let rule = match job.counts_from == self.rules {
+                    true => Rule::Wait,
+                    false => Rule::WaitAcross,
+                };
+                differences.push(Difference::new(rule, detail));
                 job.deadline = u64::MAX;
             }
         }
@@ -338,7 +376,32 @@ impl Ledger {
         (differences, left)
     }
 
-    pub fn free(&self, answer: Result<u32, Error>) -> Vec<Difference> {
+    /// One by the old rules is accepted, since its record comes from an opening; after that no record is an old one.
+    pub fn change_over(&mut self, answer: Result<(), Error>) -> Vec<Difference> {
+        let due = match self.rules {
+            Rules::Old => Ok(()),
+            Rules::New => Err(Error::RecordOutOfOrder),
+        };
+        if answer.is_ok() {
+            self.rules = Rules::New;
+        }
+        if answer == due {
+            return Vec::new();
+        }
+        let text = |answer: Result<(), Error>| match answer {
+            Ok(()) => "accepted".to_owned(),
+            Err(refusal) => format!("refused ({})", refusal.number()),
+        };
+        let rule = match due {
+            Ok(()) => Rule::ChangeAccepted,
+            Err(_) => Rule::ChangeRefused,
+        };
+        let detail = format!("{}; by the list {} was due", text(answer), text(due));
+        vec![Difference::new(rule, detail)]
+    }
+
+    /// The free count at a place, by the sentence that is about it there.
+    pub fn free(&self, answer: Result<u32, Error>, rule: Rule) -> Vec<Difference> {
         let due = 2 * (SEATS.saturating_sub(self.held.len())) as u32;
         if answer == Ok(due) {
             return Vec::new();
@@ -349,7 +412,7 @@ impl Ledger {
         };
         let held = counted(self.held.len() as u64, "job");
         let detail = format!("{given}; {due} are free with {held} held");
-        vec![Difference::new(Rule::FreeBuffers, detail)]
+        vec![Difference::new(rule, detail)]
     }
 }
 
@@ -363,8 +426,9 @@ impl Job {
     /// Judges what the job was handed over by its sentences, but for that of a service opened for it only.
     pub fn judge(&self, picture: &[u16]) -> (Vec<Difference>, Option<Handed>) {
         // A job that should not have been accepted has no run to be compared with.
-        let Some(kernel) =
-            kernel_of(&self.submission).filter(|_| picture.len() == self.picture.len())
+        let Some(kernel) = self
+            .kernel()
+            .filter(|_| picture.len() == self.picture.len())
         else {
             return (Vec::new(), None);
         };
@@ -389,7 +453,11 @@ impl Job {
             most_ticks: self.most_ticks(),
             steps,
         };
-        (handed.differences(picture, width), Some(handed))
+        let lone_run = match self.rules {
+            Rules::Old => Rule::EarlierJob,
+            Rules::New => Rule::LoneRun,
+        };
+        (handed.differences(picture, width, lone_run), Some(handed))
     }
 }
 
@@ -404,7 +472,7 @@ pub fn first_difference(given: &[u16], due: &[u16]) -> Option<(usize, u16, usize
 }
 
 impl Handed {
-    fn differences(&self, picture: &[u16], width: u32) -> Vec<Difference> {
+    fn differences(&self, picture: &[u16], width: u32, lone_run: Rule) -> Vec<Difference> {
         let mut differences = Vec::new();
         if let Some((place, due, count)) = self.differing {
             let detail = format!(
@@ -412,7 +480,7 @@ impl Handed {
                 pixel_text(picture, width, place),
                 picture.len()
             );
-            differences.push(Difference::new(Rule::LoneRun, detail));
+            differences.push(Difference::new(lone_run, detail));
         }
         if !self.farthest.is_near {
             let Farthest {

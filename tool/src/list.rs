@@ -5,27 +5,34 @@ use crate::pictures::Picture;
 use crate::services::Submitted;
 use crate::shape;
 use reference::random::Random;
+use reference::service::Rules;
 use std::fmt;
 use std::sync::Arc;
-use vokhsaot::{Shape, STORE_PIXELS};
+use vokhsaot::{Choice, Shape, STORE_PIXELS};
 
 /// What a list is, for the help of the commands that take one.
 macro_rules! list_help {
     () => {
         "\
 A list has one call a line; # begins a comment, empty lines are passed over:
-  submit SHAPE steps K size W H pixels P P P ...
-  submit SHAPE steps K size W H seed S
-  submit SHAPE steps K file PICTURE
+  submit SHAPE steps K [choice CHOICE] size W H pixels P P P ...
+  submit SHAPE steps K [choice CHOICE] size W H seed S
+  submit SHAPE steps K [choice CHOICE] file PICTURE
       SHAPE: matrix XX XY YY, or round VARIANCE, or oval LONG SHORT DEGREES,
       or oval LONG SHORT COSINE SINE
+      CHOICE: binomial, which need not be named, or smallest
   tick [N]                     once, or N times (1 to 1000000)
   collect NUMBER [length N] [to PICTURE]
                                into w × h pixels, or into N (at most 1048576)
   withdraw NUMBER
   free
+  change over                  from the old rules to the new ones
 Before the first call may stand, for a store that is not all zeros:
   store seed S
+and by which rules the service opens, where a change-over follows:
+  rules old                    or new, where the change-over is to be refused
+In a file a change-over says by itself that the service opens by the old rules.
+Before it no submit names a choice: its job has the smallest f.
 A name with blanks or # stands in double quotes."
     };
 }
@@ -56,6 +63,32 @@ impl Store {
     }
 }
 
+/// How a list opens its service.
+#[derive(Clone, Copy, Debug, PartialEq, Eq)]
+pub struct Start {
+    pub rules: Rules,
+    pub store: Store,
+}
+
+impl Start {
+    /// By the new rules, over zeros.
+    pub const USUAL: Start = Start {
+        rules: Rules::New,
+        store: Store::Zeros,
+    };
+
+    /// The lines before these calls; none where nothing has to be said. A list may come line by line, so it says by which rules
+    /// it opens wherever it changes over.
+    pub fn lines(self, calls: &[Call]) -> String {
+        let rules = match self.rules {
+            Rules::Old => "rules old\n",
+            Rules::New if calls.contains(&Call::ChangeOver) => "rules new\n",
+            Rules::New => "",
+        };
+        format!("{rules}{}", self.store.line())
+    }
+}
+
 /// Pixels of a seed: the upper 16 bits of each number of splitmix64.
 fn noise(seed: u64, count: usize) -> Vec<u16> {
     let mut random = Random::new(seed);
@@ -80,10 +113,13 @@ pub enum Call {
     },
     Withdraw(u64),
     Free,
+    ChangeOver,
 }
 
 #[derive(Clone, Debug, PartialEq)]
 pub struct Submission {
+    /// None where the line names none.
+    pub choice: Option<Choice>,
     pub shape: Shape,
     pub steps: u32,
     pub width: u32,
@@ -120,6 +156,7 @@ impl Submission {
     /// The submit itself, with the pixels that it lends.
     pub fn lending<'a>(&self, picture: &'a [u16]) -> Submitted<'a> {
         Submitted {
+            choice: self.choice,
             shape: self.shape,
             steps: self.steps,
             width: self.width,
@@ -131,6 +168,7 @@ impl Submission {
     /// One pixel, one step.
     pub fn small() -> Submission {
         Submission {
+            choice: None,
             shape: Shape::Round(0.5),
             steps: 1,
             width: 1,
@@ -161,27 +199,24 @@ pub struct Line {
 /// A list that is understood.
 #[derive(Debug, PartialEq)]
 pub struct List {
-    pub store: Store,
+    pub start: Start,
     pub lines: Vec<Line>,
 }
 
 /// A list, or what the first line that is none of it lacks.
 pub fn read(text: &str, pictures: Pictures) -> Result<List, String> {
-    let mut reader = Reader::new(pictures);
+    let mut reader = Reader::of_whole(text, pictures);
     let mut list = List {
-        store: Store::Zeros,
+        start: Start::USUAL,
         lines: Vec::new(),
     };
     for line in text.lines() {
-        match reader.line(line)? {
-            None => {}
-            Some(Entry::Store(store)) => list.store = store,
-            Some(Entry::Call(line)) => {
-                list.check_order(&line)?;
-                list.lines.push(line);
-            }
+        if let Some(line) = reader.line(line)? {
+            list.check_order(&line)?;
+            list.lines.push(line);
         }
     }
+    list.start = reader.start();
     Ok(list)
 }
 
@@ -203,32 +238,58 @@ impl List {
     }
 }
 
-/// What a line of a list says.
-pub enum Entry {
-    Store(Store),
-    Call(Line),
-}
-
 /// Reads a list line by line.
 pub struct Reader<'a> {
     pictures: Pictures<'a>,
     /// Lines so far.
     number: usize,
-    /// Whether there was anything but comments.
+    /// What the lines before the first call say.
+    rules: Option<Rules>,
+    store: Option<Store>,
+    /// Of a list that is there as a whole, whether it changes over; of one that comes line by line nobody knows.
+    changes_over: Option<bool>,
+    /// Whether there was a call, and whether a change-over.
     has_begun: bool,
+    has_changed: bool,
 }
 
 impl<'a> Reader<'a> {
+    /// For a list that comes line by line.
     pub fn new(pictures: Pictures<'a>) -> Reader<'a> {
         Reader {
             pictures,
             number: 0,
+            rules: None,
+            store: None,
+            changes_over: None,
             has_begun: false,
+            has_changed: false,
         }
     }
 
-    /// The next line; nothing where it is empty.
-    pub fn line(&mut self, line: &str) -> Result<Option<Entry>, String> {
+    /// For a list of which all lines are there: a change-over in it tells by which rules it opens.
+    fn of_whole(text: &str, pictures: Pictures<'a>) -> Reader<'a> {
+        let changes = |line: &str| words_of(line).is_ok_and(|words| words == ["change", "over"]);
+        Reader {
+            changes_over: Some(text.lines().any(changes)),
+            ..Reader::new(pictures)
+        }
+    }
+
+    /// How the list opens its service, as far as it is told. Nothing of it changes after the first call.
+    pub fn start(&self) -> Start {
+        let usual = match self.changes_over {
+            Some(true) => Rules::Old,
+            _ => Rules::New,
+        };
+        Start {
+            rules: self.rules.unwrap_or(usual),
+            store: self.store.unwrap_or(Store::Zeros),
+        }
+    }
+
+    /// The call of the next line; nothing where it is empty, or says how the service opens.
+    pub fn line(&mut self, line: &str) -> Result<Option<Line>, String> {
         self.number += 1;
         // Some editors put an invisible mark before the first line.
         let mark = if self.number == 1 { "\u{feff}" } else { "" };
@@ -247,27 +308,63 @@ impl<'a> Reader<'a> {
         format!("line {}: {message}", self.number)
     }
 
-    fn entry(&mut self, words: Vec<String>) -> Result<Option<Entry>, String> {
+    fn entry(&mut self, words: Vec<String>) -> Result<Option<Line>, String> {
         if words.is_empty() {
             return Ok(None);
         }
-        let is_first = !std::mem::replace(&mut self.has_begun, true);
         let mut words = Words {
             words,
             next: 0,
             pictures: self.pictures,
         };
-        let entry = match words.is_next("store") {
-            true if !is_first => return Err("the store is told before all calls".to_owned()),
-            true => Entry::Store(words.store()?),
-            false => {
-                let (number, call) = (self.number, words.call()?);
-                Entry::Call(Line { number, call })
-            }
+        let mut call = None;
+        if words.is_next("store") {
+            self.check_first("the store is", self.store.is_some())?;
+            self.store = Some(words.store()?);
+        } else if words.is_next("rules") {
+            self.check_first("the rules are", self.rules.is_some())?;
+            self.rules = Some(words.rules()?);
+        } else {
+            call = Some(words.call()?);
+        }
+        if let [extra, ..] = words.rest() {
+            return Err(format!("\"{extra}\" is one word too many"));
+        }
+        let Some(call) = call else {
+            return Ok(None);
         };
-        match words.rest() {
-            [] => Ok(Some(entry)),
-            [extra, ..] => Err(format!("\"{extra}\" is one word too many")),
+        self.check_rules(&call)?;
+        self.has_begun = true;
+        self.has_changed |= call == Call::ChangeOver;
+        let number = self.number;
+        Ok(Some(Line { number, call }))
+    }
+
+    /// What is told of the opening stands before it, once.
+    fn check_first(&self, what: &str, is_told: bool) -> Result<(), String> {
+        match (self.has_begun, is_told) {
+            (true, _) => Err(format!("{what} told before all calls")),
+            (false, true) => Err(format!("{what} told twice")),
+            (false, false) => Ok(()),
+        }
+    }
+
+    /// Whether a call can stand here by the rules.
+    fn check_rules(&self, call: &Call) -> Result<(), String> {
+        let is_old = self.start().rules == Rules::Old && !self.has_changed;
+        match call {
+            // Its calls were answered by the new rules already.
+            Call::ChangeOver if self.rules.is_none() && self.changes_over.is_none() => Err(
+                "a list that comes line by line says \"rules old\" before all calls where it changes over (\"rules new\" where that is to be refused)"
+                    .to_owned(),
+            ),
+            Call::Submit(Submission {
+                choice: Some(_), ..
+            }) if is_old => Err(
+                "a submit before the change-over names no choice: by the old rules its job has the smallest f"
+                    .to_owned(),
+            ),
+            _ => Ok(()),
         }
     }
 }
@@ -358,6 +455,14 @@ impl Words<'_> {
         Ok(Store::Seeded(seed))
     }
 
+    fn rules(&mut self) -> Result<Rules, String> {
+        match self.word("\"old\" or \"new\"")?.as_str() {
+            "old" => Ok(Rules::Old),
+            "new" => Ok(Rules::New),
+            word => Err(format!("\"old\" or \"new\" is expected, not \"{word}\"")),
+        }
+    }
+
     fn call(&mut self) -> Result<Call, String> {
         Ok(match self.word("a call")?.as_str() {
             "submit" => Call::Submit(self.submission()?),
@@ -366,6 +471,10 @@ impl Words<'_> {
             "collect" => self.collect()?,
             "withdraw" => Call::Withdraw(long_unsigned(&self.word("the job number")?)?),
             "free" => Call::Free,
+            "change" => {
+                self.expect("over")?;
+                Call::ChangeOver
+            }
             word => return Err(format!("\"{word}\" is no call")),
         })
     }
@@ -400,10 +509,15 @@ impl Words<'_> {
     fn submission(&mut self) -> Result<Submission, String> {
         let shape = self.shape()?;
         let steps = unsigned(&self.word("the step count")?)?;
+        let choice = match self.is_next("choice") {
+            true => Some(shape::choice(&self.word("the choice")?)?),
+            false => None,
+        };
         if self.is_next("file") {
             let name = self.file()?;
             let picture = (self.pictures)(&name)?;
             return Ok(Submission {
+                choice,
                 shape,
                 steps,
                 width: picture.width,
@@ -416,6 +530,7 @@ impl Words<'_> {
         }
         self.expect("size")?;
         Ok(Submission {
+            choice,
             shape,
             steps,
             width: unsigned(&self.word("the width")?)?,
@@ -490,6 +605,7 @@ impl fmt::Display for Call {
             }
             Call::Withdraw(number) => write!(f, "withdraw {number}"),
             Call::Free => write!(f, "free"),
+            Call::ChangeOver => write!(f, "change over"),
         }
     }
 }
@@ -499,6 +615,9 @@ impl fmt::Display for Submission {
         let shape = shape::words(self.shape);
         let (steps, width, height) = (self.steps, self.width, self.height);
         write!(f, "{shape} steps {steps}")?;
+        if let Some(choice) = self.choice {
+            write!(f, " choice {}", shape::choice_name(choice))?;
+        }
         match &self.pixels {
             Pixels::File(name, _) => write!(f, " file {}", quoted(name)),
             Pixels::Seeded(seed) => write!(f, " size {width} {height} seed {seed}"),
@@ -547,6 +666,10 @@ mod tests {
             "submit round 2 steps 8 file before.pgm",
             "withdraw 7",
             "free",
+            "change over",
+            "submit round 0.5 steps 1 choice smallest size 1 1 pixels 3",
+            "submit round 0.5 steps 1 choice binomial size 1 1 seed 3",
+            "submit round 2 steps 8 choice smallest file before.pgm",
         ] {
             let found = read(line).unwrap();
             assert_eq!(found[0].call.to_string(), line);
@@ -566,17 +689,76 @@ mod tests {
 
     #[test]
     fn stores() {
-        assert_eq!(read_list("free").unwrap().store, Store::Zeros);
+        assert_eq!(read_list("free").unwrap().start, Start::USUAL);
         let seeded = read_list("# noise\n\nstore seed 0 # so\nfree").unwrap();
-        assert_eq!((seeded.store, seeded.lines.len()), (Store::Seeded(0), 1));
-        assert_eq!(seeded.store.line(), "store seed 0\n");
+        let store = seeded.start.store;
+        assert_eq!((store, seeded.lines.len()), (Store::Seeded(0), 1));
+        assert_eq!(store.line(), "store seed 0\n");
         // As the pixels of a picture, below.
-        let pixels = seeded.store.pixels();
+        let pixels = store.pixels();
         assert_eq!(
             (&pixels[..2], pixels.len()),
             (&[0xe220, 0x6e78][..], STORE_PIXELS)
         );
         assert_eq!(Store::Zeros.pixels(), [0; STORE_PIXELS]);
+    }
+
+    /// A list opens by the old rules where it says so, and in a file where it changes over and says nothing.
+    #[test]
+    fn rules() {
+        let submit = "submit round 0.5 steps 1 size 1 1 pixels 3\n";
+        for (text, rules) in [
+            ("tick\n", Rules::New),
+            ("rules old\ntick\n", Rules::Old),
+            ("rules new\ntick\n", Rules::New),
+            ("tick\n  change\tover # at last\n", Rules::Old),
+            ("change over\nchange over\n", Rules::Old),
+            ("store seed 1\nrules new\nchange over\n", Rules::New),
+            ("rules old\nstore seed 1\nchange over\n", Rules::Old),
+            // No change-over, but a comment and a name.
+            ("tick # change over\n", Rules::New),
+            ("collect 1 to \"change over\"\n", Rules::New),
+        ] {
+            let list = read_list(&format!("{text}{submit}")).unwrap();
+            assert_eq!(list.start.rules, rules, "{text}");
+            // What a list is written with reads back as the same.
+            let calls: Vec<Call> = list.lines.into_iter().map(|line| line.call).collect();
+            let lines: String = calls.iter().map(|call| format!("{call}\n")).collect();
+            let again = read_list(&format!("{}{lines}", list.start.lines(&calls))).unwrap();
+            let same: Vec<Call> = again.lines.into_iter().map(|line| line.call).collect();
+            assert_eq!((again.start, same), (list.start, calls), "{text}");
+        }
+        let choice = "submit round 0.5 steps 1 choice smallest size 1 1 pixels 3";
+        let early = "a submit before the change-over names no choice: by the old rules its job has the smallest f";
+        for (text, fault) in [
+            (format!("{choice}\nchange over"), Some((1, early))),
+            (format!("rules old\n{choice}"), Some((2, early))),
+            (format!("change over\n{choice}"), None),
+            (format!("rules new\n{choice}\nchange over"), None),
+        ] {
+            let fault = fault.map(|(line, message)| format!("line {line}: {message}"));
+            assert_eq!(read(&text).err(), fault, "{text}");
+        }
+    }
+
+    /// Line by line nobody knows what is to come.
+    #[test]
+    fn rules_line_by_line() {
+        let pictures = |name: &str| Err(name.to_owned());
+        let mut reader = Reader::new(&pictures);
+        assert_eq!(reader.line("# first"), Ok(None));
+        let message = "line 2: a list that comes line by line says \"rules old\" before all calls where it changes over (\"rules new\" where that is to be refused)";
+        assert_eq!(reader.line("change over"), Err(message.to_owned()));
+        // It was no call, so the rules can still be told.
+        assert_eq!(reader.line("rules old"), Ok(None));
+        assert_eq!(reader.start().rules, Rules::Old);
+        let line = reader.line("change over").unwrap().unwrap();
+        assert_eq!((line.number, line.call), (4, Call::ChangeOver));
+        assert_eq!(reader.start().rules, Rules::Old);
+        assert_eq!(
+            reader.line("rules old"),
+            Err("line 5: the rules are told before all calls".to_owned())
+        );
     }
 
     #[test]
@@ -645,6 +827,14 @@ submit round 1 steps 1 size 1|the height is missing
 submit round 1 steps 1 size 1 1|\"pixels\" or \"seed\" is missing
 submit round 1 steps 1 size 1 1 pixels 65536|\"65536\" is not a whole number from 0 to 65535
 submit round 1 steps 1 size 1 1 seed 1 2|\"2\" is one word too many
+submit round 1 steps 1 choice|the choice is missing
+submit round 1 steps 1 choice largest size 1 1 pixels 1|\"largest\" is none of binomial, smallest
+submit round 1 steps 1 choice smallest|\"size\" or \"file\" is missing
+submit round 1 steps 1 size 1 1 choice smallest pixels 1|\"pixels\" or \"seed\" is expected, not \"choice\"
+change|\"over\" is missing
+change it|\"over\" is expected, not \"it\"
+change over 2|\"2\" is one word too many
+rules old|the rules are told before all calls
 ";
 
     #[test]
@@ -662,10 +852,11 @@ submit round 1 steps 1 size 1 1 seed 1 2|\"2\" is one word too many
                 "\"x\" is not a whole number from 0 to 18446744073709551615",
             ),
             ("store seed 1 2", "\"2\" is one word too many"),
-            (
-                "store seed 1\nstore seed 1",
-                "the store is told before all calls",
-            ),
+            ("store seed 1\nstore seed 1", "the store is told twice"),
+            ("rules", "\"old\" or \"new\" is missing"),
+            ("rules fair", "\"old\" or \"new\" is expected, not \"fair\""),
+            ("rules old 2", "\"2\" is one word too many"),
+            ("rules old\nrules old", "the rules are told twice"),
         ] {
             let number = line.lines().count();
             assert_eq!(

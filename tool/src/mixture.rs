@@ -3,25 +3,28 @@
 
 use crate::error::{Failure, Outcome};
 use crate::files;
-use crate::list::{Call, Pixels, Submission};
+use crate::list::{Call, Pixels, Store, Submission};
 use crate::model::Model;
 use crate::numbers::long_unsigned;
 use crate::progress::Progress;
-use crate::services::JOB_CHOICE;
 use crate::shape::UNITS;
 use reference::random::Random;
-use reference::service::Record;
-use vokhsaot::{kernel_by, Direction, Shape};
+use reference::service::{Record, Rules};
+use vokhsaot::{kernel, Choice, Direction, Shape};
 
 /// Print a random list of service calls for replay
 #[derive(clap::Args)]
 #[command(
     before_help = "\
 Prints a list of N lines with calls for vokhsaot replay, wrong calls included: the
-same list for the same numbers.",
+same list for the same numbers. With --change-over it opens by the old rules and
+has one line more: the change-over, after L of the others. These are the same
+wherever it stands, but that before it no submit names a choice of f, and free
+counts stand for the change-overs that are refused after it.",
     after_help = "\
 Examples:
   $ vokhsaot mixture --seed 6 --calls 5
+  $ vokhsaot mixture --seed 6 --calls 5 --change-over 2
   $ vokhsaot mixture --seed 2 --calls 200 | vokhsaot replay --quiet"
 )]
 pub struct Options {
@@ -34,27 +37,62 @@ pub struct Options {
     /// The most jobs that are accepted in it
     #[arg(long, value_name = "M", value_parser = long_unsigned, allow_hyphen_values = true)]
     jobs: Option<u64>,
+    /// Open by the old rules, and change over after this many lines, 0 to N
+    #[arg(long, value_name = "L", value_parser = long_unsigned, allow_hyphen_values = true)]
+    change_over: Option<u64>,
 }
 
 pub fn command(options: &Options) -> Result<Outcome, Failure> {
-    let Options { seed, calls, jobs } = *options;
-    let mut mixture = Mixture::new(seed, jobs.unwrap_or(u64::MAX));
-    let mut model = Model::new();
-    let mut head = format!("# vokhsaot mixture --seed {seed} --calls {calls}");
-    if let Some(jobs) = jobs {
-        head += &format!(" --jobs {jobs}");
+    let Options {
+        seed,
+        calls,
+        jobs,
+        change_over,
+    } = *options;
+    if change_over.is_some_and(|lines| lines > calls) {
+        return Err(Failure::Usage {
+            command: Some("mixture"),
+            message: format!("--change-over: there are {calls} lines"),
+        });
     }
-    files::print(format!("{head}\n").as_bytes())?;
-    let mut progress = Progress::new("line", calls);
-    for _ in 0..calls {
-        let call = mixture.call(model.record());
-        for _ in 0..call.times() {
-            follow(&mut model, &call);
+    let rules = match change_over {
+        Some(_) => Rules::Old,
+        None => Rules::New,
+    };
+    let mut mixture = Mixture::new(seed, jobs.unwrap_or(u64::MAX));
+    let mut model = Model::open(rules, Store::Zeros.pixels());
+    let mut head = format!("# vokhsaot mixture --seed {seed} --calls {calls}");
+    for (option, number) in [("jobs", jobs), ("change-over", change_over)] {
+        if let Some(number) = number {
+            head += &format!(" --{option} {number}");
         }
-        files::print(format!("{call}\n").as_bytes())?;
-        progress.advance();
+    }
+    // It is printed as it is made, so it cannot be known whether a change-over stands further on.
+    let rules = match rules {
+        Rules::Old => "old",
+        Rules::New => "new",
+    };
+    files::print(format!("{head}\nrules {rules}\n").as_bytes())?;
+    let mut progress = Progress::new("line", calls);
+    for line in 0..=calls {
+        if change_over == Some(line) {
+            put(&mut model, &Call::ChangeOver)?;
+        }
+        if line < calls {
+            let call = mixture.call(model.record());
+            put(&mut model, &call)?;
+            progress.advance();
+        }
     }
     Ok(Outcome::Good)
+}
+
+/// Prints a call, and does it.
+fn put(model: &mut Model, call: &Call) -> Result<(), Failure> {
+    for _ in 0..call.times() {
+        follow(model, call);
+    }
+    files::print(format!("{call}\n").as_bytes())
 }
 
 /// Does a call, whether it is refused or not; the number that a submit gives.
@@ -71,6 +109,7 @@ pub fn follow(model: &mut Model, call: &Call) -> Option<u64> {
         }
         Call::Withdraw(number) => _ = model.withdraw(*number),
         Call::Free => {}
+        Call::ChangeOver => _ = model.change_over(),
     }
     None
 }
@@ -109,6 +148,8 @@ type Appetite = [u64; 5];
 const USUAL: Appetite = [8, 7, 3, 1, 1];
 /// So many lines of a varied mixture have one appetite.
 const PHASE: u64 = 64;
+/// One of so many free counts is a change-over instead, where that is refused.
+const CHANGES: u64 = 4;
 
 /// Lists in the making.
 pub struct Mixture {
@@ -163,12 +204,23 @@ impl Mixture {
             Some(1) => Call::Tick(self.random.pick(&[1, 1, 1, 2, 5, 12])),
             Some(2) => self.collect(record),
             Some(3) => Call::Withdraw(self.some_number(record)),
-            _ => Call::Free,
+            _ => {
+                // By the new rules a change-over is refused. By the old ones it comes when it is due.
+                let is_change = self.random.once_in(CHANGES) && record.rules == Rules::New;
+                match is_change {
+                    true => Call::ChangeOver,
+                    false => Call::Free,
+                }
+            }
         }
     }
 
     fn submit(&mut self, record: &Record) -> Call {
         let mut submission = self.good_submission();
+        // By the old rules none is named; what follows is drawn as it would be by the new ones.
+        if record.rules == Rules::Old {
+            submission.choice = None;
+        }
         if record.last_number >= self.most_jobs || self.random.once_in(5) {
             self.spoil(&mut submission);
         }
@@ -178,10 +230,17 @@ impl Mixture {
     fn good_submission(&mut self) -> Submission {
         let random = &mut self.random;
         let steps = random.pick(&[1, 1, 2, 3, 4, 5, 8, 64]);
+        // The same shapes have a kernel by either choice.
         let shape = (0..20)
             .map(|_| some_shape(random, steps))
-            .find(|shape| kernel_by(JOB_CHOICE, *shape, steps).is_ok())
+            .find(|shape| kernel(*shape, steps).is_ok())
             .unwrap_or(Shape::Round(0.25));
+        let choice = random.pick(&[
+            None,
+            Some(Choice::Binomial),
+            Some(Choice::Smallest),
+            Some(Choice::Smallest),
+        ]);
         let (width, height) = match random.below(16) {
             0 => random.pick(&[(32, 32), (1024, 1), (1, 1024), (64, 16)]),
             _ => (1 + random.below(6) as u32, 1 + random.below(6) as u32),
@@ -191,6 +250,7 @@ impl Mixture {
             _ => Pixels::Seeded(random.below(1_000_000)),
         };
         Submission {
+            choice,
             shape,
             steps,
             width,

@@ -1,11 +1,11 @@
-//! The independent service of `reference/`, under the calls of a list, and its record as the words that the library uses.
+//! The independent service of `reference/`, under the calls of a list.
 
 use crate::services::Submitted;
 use reference::kernel::{Choice as ReferenceChoice, Covariance};
-use reference::lists::{Calls, Model as Reference};
-use reference::service::{Record, Slot, SLOTS, STORE_PIXELS};
+use reference::service::{self, Record, Rules};
 use reference::shape::{Direction, Shape as ReferenceShape};
-use vokhsaot::{Choice, Error, Shape, SEAT_WORDS, WORDS};
+use reference::words::{record_of, words_of};
+use vokhsaot::{Choice, Error, Shape};
 
 /// A shape as the independent program has it.
 pub fn shape_of(shape: Shape) -> ReferenceShape {
@@ -40,172 +40,140 @@ pub fn refusal(number: u8) -> Error {
     Error::from_number(number.into()).expect("the independent program refuses by numbers 1 to 13")
 }
 
-/// The independent service.
+/// The independent service, by the rules that its record says.
 #[derive(Clone)]
-pub struct Model(Reference);
+pub struct Model {
+    record: Record,
+    store: Vec<u16>,
+}
 
 impl Model {
     /// Opened over a store.
-    pub fn open(store: Vec<u16>) -> Model {
-        Model(Reference::open(store))
-    }
-
-    /// Opened over a store of zeros.
-    pub fn new() -> Model {
-        Model::open(vec![0; STORE_PIXELS])
+    pub fn open(rules: Rules, store: Vec<u16>) -> Model {
+        Model {
+            record: service::opening(rules),
+            store,
+        }
     }
 
     pub fn submit(&mut self, submitted: Submitted) -> Result<u64, Error> {
         let Submitted {
+            choice,
             shape,
             steps,
             width,
             height,
             picture,
         } = submitted;
-        let answer = self
-            .0
-            .submit(shape_of(shape), steps, width, height, picture);
+        let Model { record, store } = self;
+        // By the old rules none can be named, whatever a list says after a change-over that was refused.
+        let choice = choice.filter(|_| record.rules == Rules::New);
+        let (choice, shape) = (choice.map(choice_of), shape_of(shape));
+        let answer = service::submit(record, store, choice, shape, steps, width, height, picture);
         answer.map_err(refusal)
     }
 
     pub fn tick(&mut self) -> Result<Option<u64>, Error> {
-        self.0.tick().map_err(refusal)
+        service::tick(&mut self.record, &mut self.store).map_err(refusal)
     }
 
     pub fn collect(&mut self, number: u64, picture: &mut [u16]) -> Result<u64, Error> {
-        self.0.collect(number, picture).map_err(refusal)
+        service::collect(&mut self.record, &self.store, number, picture).map_err(refusal)
     }
 
     pub fn withdraw(&mut self, number: u64) -> Result<u64, Error> {
-        self.0.withdraw(number).map_err(refusal)
+        service::withdraw(&mut self.record, number).map_err(refusal)
     }
 
     pub fn free(&self) -> Result<u32, Error> {
-        self.0.free().map_err(refusal)
+        service::free_count(&self.record).map_err(refusal)
+    }
+
+    /// The store stays as it is.
+    pub fn change_over(&mut self) -> Result<(), Error> {
+        self.record = service::change_over(&self.record).map_err(refusal)?;
+        Ok(())
+    }
+
+    pub fn rules(&self) -> Rules {
+        self.record.rules
     }
 
     pub fn record(&self) -> &Record {
-        &self.0.record
+        &self.record
     }
 
     pub fn store(&self) -> &[u16] {
-        &self.0.store
+        &self.store
     }
 
-    pub fn words(&self) -> [u64; WORDS] {
-        words_of(self.record())
+    pub fn words(&self) -> Vec<u64> {
+        words_of(&self.record)
     }
 
-    /// Goes on from another service's state, where its words hold a record at all.
+    /// Goes on from another service's state, where its words hold a record at all: how many there are tells by which rules.
     pub fn take_over(&mut self, words: &[u64], store: &[u16]) {
-        if let Some(record) = record_of(words) {
-            self.0.record = record;
+        let found = Rules::ALL
+            .into_iter()
+            .find_map(|rules| record_of(rules, words));
+        if let Some(record) = found {
+            self.record = record;
         }
-        self.0.store.clear();
-        self.0.store.extend_from_slice(store);
+        self.store.clear();
+        self.store.extend_from_slice(store);
     }
-}
-
-/// The two's complement of 32 bits, as the words have it.
-fn bits(value: i32) -> u64 {
-    u64::from(value as u32)
-}
-
-fn words_of(record: &Record) -> [u64; WORDS] {
-    let mut words = [0; WORDS];
-    let (seats, named) = words.split_at_mut(SLOTS * SEAT_WORDS);
-    for (words, slot) in seats.chunks_mut(SEAT_WORDS).zip(&record.slots) {
-        words.copy_from_slice(&[
-            slot.number,
-            bits(slot.xx),
-            bits(slot.xy),
-            bits(slot.yy),
-            slot.steps.into(),
-            slot.steps_left.into(),
-            slot.width.into(),
-            slot.height.into(),
-        ]);
-    }
-    named.copy_from_slice(&[
-        record.last_number,
-        record.last_filled.into(),
-        record.last_served.into(),
-    ]);
-    words
-}
-
-/// The record of some words; none where there are too few or too many, or one does not fit 32 bits.
-fn record_of(words: &[u64]) -> Option<Record> {
-    let word = |place: usize| u32::try_from(words[place]).ok();
-    if words.len() != WORDS {
-        return None;
-    }
-    let mut slots = [Slot::default(); SLOTS];
-    for (seat, slot) in slots.iter_mut().enumerate() {
-        let field = |place: usize| word(seat * SEAT_WORDS + place);
-        *slot = Slot {
-            number: words[seat * SEAT_WORDS],
-            xx: field(1)? as i32,
-            xy: field(2)? as i32,
-            yy: field(3)? as i32,
-            steps: field(4)?,
-            steps_left: field(5)?,
-            width: field(6)?,
-            height: field(7)?,
-        };
-    }
-    let named = SLOTS * SEAT_WORDS;
-    Some(Record {
-        slots,
-        last_number: words[named],
-        last_filled: word(named + 1)?,
-        last_served: word(named + 2)?,
-    })
 }
 
 #[cfg(test)]
 mod tests {
     use super::*;
+    use reference::service::{Slot, STORE_PIXELS};
 
+    fn zeros() -> Vec<u16> {
+        vec![0; STORE_PIXELS]
+    }
+
+    /// The words are those that the library lends, and a record comes back from them by the rules of their number.
     #[test]
     fn words_and_records() {
-        let opening = Model::new();
+        let opening = Model::open(Rules::New, zeros());
         assert_eq!(opening.words(), vokhsaot::Service::new().words());
-        let mut record = *opening.record();
-        record.slots[7] = Slot {
-            number: u64::MAX,
-            xx: 4096,
-            xy: -1,
-            yy: i32::MIN,
-            steps: 2,
-            steps_left: 1,
-            width: 3,
-            height: 4,
-        };
-        record.last_number = u64::MAX;
-        record.last_served = 5;
-        let words = words_of(&record);
-        assert_eq!(
-            words[56..],
-            [
-                u64::MAX,
-                4096,
-                0xffff_ffff,
-                0x8000_0000,
-                2,
-                1,
-                3,
-                4,
-                u64::MAX,
-                7,
-                5
-            ]
-        );
-        assert_eq!(record_of(&words), Some(record));
-        assert_eq!(record_of(&words[1..]), None);
-        let mut large = words;
-        large[57] = 1 << 32;
-        assert_eq!(record_of(&large), None);
+        for (rules, f) in [(Rules::Old, 0), (Rules::New, 7)] {
+            let mut record = *Model::open(rules, zeros()).record();
+            record.slots[7] = Slot {
+                number: u64::MAX,
+                xx: 4096,
+                xy: -1,
+                yy: i32::MIN,
+                steps: 2,
+                steps_left: 1,
+                width: 3,
+                height: 4,
+                f,
+            };
+            record.last_number = u64::MAX;
+            record.last_served = 5;
+            let words = words_of(&record);
+            let mut end = vec![u64::MAX, 4096, 0xffff_ffff, 0x8000_0000, 2, 1, 3, 4];
+            if rules == Rules::New {
+                end.push(7);
+            }
+            end.extend([u64::MAX, 7, 5]);
+            assert!(words.ends_with(&end), "{words:?}");
+            let mut model = opening.clone();
+            model.take_over(&words, &zeros());
+            assert_eq!(*model.record(), record);
+            // Words that hold none change nothing but the store.
+            let mut large = words.clone();
+            large[1] = 1 << 32;
+            for none in [&large[..], &words[1..], &[]] {
+                let mut model = opening.clone();
+                model.take_over(none, &[9]);
+                assert_eq!(
+                    (*model.record(), model.store()),
+                    (*opening.record(), &[9][..])
+                );
+            }
+        }
     }
 }

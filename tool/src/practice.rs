@@ -11,7 +11,7 @@ mod wrong_steps;
 use crate::error::{Failure, Outcome};
 use crate::files;
 use crate::judge::Judge;
-use crate::list::{self, Store};
+use crate::list;
 use crate::numbers::whole;
 use crate::rules::Rule;
 use crate::services::Service;
@@ -19,6 +19,7 @@ use crate::{replay, soak};
 use clap::Subcommand;
 use exercises::{Exercise, EXERCISES};
 use faulty::Faulty;
+use reference::service::Rules;
 use std::collections::BTreeSet;
 
 /// Find the fault of a service made for practice
@@ -100,7 +101,7 @@ fn place_of(number: &str) -> Result<usize, Failure> {
 }
 
 fn run_on(place: usize, run: &Run) -> Result<Outcome, Failure> {
-    let opening = |store| EXERCISES[place].open(store);
+    let opening = |rules, store| EXERCISES[place].open(rules, store);
     match run {
         Run::Replay(options) => replay::on(options, &opening),
         Run::Soak(options) => {
@@ -112,18 +113,18 @@ fn run_on(place: usize, run: &Run) -> Result<Outcome, Failure> {
 
 impl Exercise {
     /// A newly opened service with the fault.
-    fn open(&self, store: Vec<u16>) -> Box<dyn Service> {
-        Box::new(Faulty::new(self.fault, store))
+    fn open(&self, rules: Rules, store: Vec<u16>) -> Box<dyn Service> {
+        Box::new(Faulty::new(self.fault, rules, store))
     }
 
     /// The rules that its calls show to be broken, each once, in their order.
     fn broken(&self) -> Vec<Rule> {
-        let opening = |store| self.open(store);
+        let opening = |rules, store| self.open(rules, store);
         let list = list::read(&self.list(), &|name| Err(name.to_owned()));
-        let lines = list.map(|list| list.lines).unwrap_or_default();
-        let (mut judge, _) = Judge::new(&opening, Store::Zeros);
+        let list = list.expect("an answer is a list");
+        let (mut judge, _) = Judge::new(&opening, list.start);
         let mut broken = Vec::new();
-        for line in lines {
+        for line in list.lines {
             for _ in 0..line.call.times() {
                 let found = judge.call(&line.call).differences.into_iter();
                 broken.extend(found.map(|difference| difference.rule));
@@ -134,7 +135,7 @@ impl Exercise {
         broken
     }
 
-    /// The calls that show the fault, one a line.
+    /// The list that shows the fault.
     fn list(&self) -> String {
         let lines = self.calls.iter();
         lines

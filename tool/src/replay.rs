@@ -4,10 +4,11 @@ use crate::error::{one_line, say, Failure, Outcome};
 use crate::files;
 use crate::judge::{answer_text, HandedOver, Judge, Judged, Verdict};
 use crate::lines::{self, Lines};
-use crate::list::{self, list_help, Call, Entry, Line, Reader, Store};
+use crate::list::{self, list_help, Call, Line, Reader, Start};
 use crate::pictures::Picture;
 use crate::rules::Difference;
 use crate::services::{proved, Opening};
+use reference::service::Rules;
 use std::ffi::OsString;
 use std::io::{self, IsTerminal};
 
@@ -21,13 +22,15 @@ free counts, the record, the store and the pictures handed over are compared, an
 the promises are checked on the list itself. A difference is written in capitals
 with the sentence that is broken. The last line is the verdict; the exit status is
 0 only where it is good. Refused calls are no differences where they are due. A
-job's kernel has the smallest f (smooth --choice smallest). A list from standard
-input is answered line by line.
+list with a change-over opens by the old rules: until then the independent program
+answers, since the earlier release is not linked; from the change-over on it is the
+library. A list from standard input is answered line by line.
 
 ", list_help!()),
     after_help = "\
 Examples:
   $ vokhsaot replay two-jobs.list
+  $ vokhsaot replay change.list
   $ vokhsaot mixture --seed 2 --calls 200 | vokhsaot replay --quiet"
 )]
 pub struct Options {
@@ -58,7 +61,7 @@ pub fn on(options: &Options, opening: Opening) -> Result<Outcome, Failure> {
         // A file is understood as a whole before the first call.
         Lines::All(text) => {
             let list = list::read(&text, &pictures).map_err(fault)?;
-            replay.open(list.store)?;
+            replay.open(list.start)?;
             list.lines.iter().try_for_each(|line| replay.line(line))?;
         }
         Lines::Each(lines) => {
@@ -74,43 +77,54 @@ pub fn on(options: &Options, opening: Opening) -> Result<Outcome, Failure> {
                     Err(failure) if is_typed => say(&failure.to_string()),
                     Err(failure) => return Err(failure),
                     Ok(None) => {}
-                    Ok(Some(Entry::Store(store))) => replay.open(store)?,
-                    Ok(Some(Entry::Call(line))) => replay.line(&line)?,
+                    Ok(Some(line)) => {
+                        replay.open(reader.start())?;
+                        replay.line(&line)?;
+                    }
                 }
             }
+            replay.open(reader.start())?;
         }
     }
     replay.finish()
 }
 
+/// What is said where a list opens by the old rules.
+const OPENED_OLD: &str = "\
+opened by the old rules: up to the change-over the independent program answers, since the earlier release is not linked
+";
+
 /// A list in progress.
 struct Replay<'a> {
     opening: Opening<'a>,
-    /// None until the store is known.
+    /// None until it is known how the list opens its service: at the first call.
     judge: Option<Judge<'a>>,
     first: Option<String>,
     quiet: bool,
 }
 
 impl<'a> Replay<'a> {
-    fn open(&mut self, store: Store) -> Result<(), Failure> {
-        let (judge, differences) = Judge::new(self.opening, store);
+    /// Opens the service, where it is not open yet.
+    fn open(&mut self, start: Start) -> Result<(), Failure> {
+        if self.judge.is_some() {
+            return Ok(());
+        }
+        if start.rules == Rules::Old {
+            self.print(OPENED_OLD)?;
+        }
+        let (judge, differences) = Judge::new(self.opening, start);
         self.judge = Some(judge);
         self.tell("the opening", &differences)
     }
 
-    /// The service, opened over zeros where nothing was said of its store.
-    fn judge(&mut self) -> Result<&mut Judge<'a>, Failure> {
-        if self.judge.is_none() {
-            self.open(Store::Zeros)?;
-        }
-        Ok(self.judge.as_mut().expect("just opened"))
+    fn judge(&mut self) -> &mut Judge<'a> {
+        self.judge.as_mut().expect("the list is open")
     }
 
     /// Does the calls of a line, each with its answer.
     fn line(&mut self, line: &Line) -> Result<(), Failure> {
         for _ in 0..line.call.times() {
-            let judge = self.judge()?;
+            let judge = self.judge();
             let judged = judge.call(&line.call);
             let place = format!("call {}, line {}", judge.counts().calls, line.number);
             self.print(&answer_line(&place, &line.call, &judged))?;
@@ -146,7 +160,7 @@ impl<'a> Replay<'a> {
     }
 
     fn finish(mut self) -> Result<Outcome, Failure> {
-        let judge = self.judge()?;
+        let judge = self.judge();
         let (counts, longest) = (judge.counts(), judge.longest_wait());
         let verdict = Verdict {
             counts,

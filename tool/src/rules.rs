@@ -23,6 +23,7 @@ pub enum Rule {
     RefusalChangesNothing,
     IdleChangesNothing,
     SubmitRecord,
+    SubmitF,
     SubmitStore,
     TickRecord,
     TickStore,
@@ -31,9 +32,18 @@ pub enum Rule {
     LeaveStore,
     CountChangesNothing,
     LoneRun,
+    EarlierJob,
     HalfPerStep,
     LoneService,
     Wait,
+    WaitAcross,
+    FreeAcross,
+    ChangeAccepted,
+    ChangeRefused,
+    ChangedF,
+    ChangedTurn,
+    ChangedFields,
+    ChangeStore,
 }
 
 /// What is wrong in capitals, and the sentences that are broken, with their ids.
@@ -160,10 +170,19 @@ impl Rule {
                     ),
                     (
                         "V13",
-                        "Submit fills that seat with job number, xx, xy, yy, steps, steps left, w and h, all steps being \
-                         left, names it as the seat last filled, and changes nothing else of the record",
+                        "Submit fills that seat with job number, xx, xy, yy, steps, steps left, w, h and f [of its \
+                         choice], all steps being left, names it as the seat last filled, and changes nothing else of \
+                         the record",
                     ),
                 ],
+            ),
+            Rule::SubmitF => (
+                "WRONG RECORD",
+                &[(
+                    "S3.10",
+                    "[By the new rules] submit takes the choice of S-2: the seat gets the f of that choice, and one \
+                     without a choice that of S2.1",
+                )],
             ),
             Rule::SubmitStore => (
                 "WRONG STORE",
@@ -184,7 +203,8 @@ impl Rule {
                 "WRONG STORE",
                 &[(
                     "V15",
-                    "Tick does one step, from the buffer of the current picture to the seat's other one, w × h pixels only",
+                    "Tick does one step, from the buffer of the current picture to the seat's other one, w × h pixels \
+                     only, by the kernel with the seat's f",
                 )],
             ),
             Rule::CollectRecord => (
@@ -214,6 +234,16 @@ impl Rule {
                      up], and each pixel that a collect hands over equals what the job gets alone",
                 )],
             ),
+            Rule::EarlierJob => (
+                "WRONG PICTURE",
+                &[
+                    ("S3.6", "Its jobs finish with the pixels they would have had before"),
+                    (
+                        "S3.9",
+                        "A job from before the change-over has the smallest choice, in its lone run and in the exact one",
+                    ),
+                ],
+            ),
             Rule::HalfPerStep => (
                 "TOO FAR FROM THE EXACT RUN",
                 &[(
@@ -236,6 +266,60 @@ impl Rule {
                     "Where a held job has r steps left and 8 × r more ticks follow in the list, it is finished or was \
                      withdrawn by the last of them",
                 )],
+            ),
+            Rule::WaitAcross => (
+                "WAITS TOO LONG",
+                &[(
+                    "S3.13",
+                    "The wait of 8 × r ticks holds with the change-over anywhere among them",
+                )],
+            ),
+            Rule::FreeAcross => (
+                "WRONG FREE COUNT",
+                &[(
+                    "S3.13",
+                    "Free buffers are 16 less 2 for each job held at every place, right before [the change-over] and \
+                     right after it too",
+                )],
+            ),
+            Rule::ChangeAccepted => (
+                "WRONG ANSWER",
+                &[(
+                    "S3.8",
+                    "[The change-over] is accepted at every place by the old rules",
+                )],
+            ),
+            Rule::ChangeRefused => (
+                "NOT REFUSED",
+                &[
+                    ("S3.5", "[A record] not in order by the old rule gets 2"),
+                    ("S3.8", "[A change-over] that comes after [one] is refused with 2"),
+                ],
+            ),
+            Rule::ChangedF => (
+                "WRONG RECORD",
+                &[(
+                    "S3.4",
+                    "An old record becomes a new one with the smallest f in each filled seat and f 0 in each empty one",
+                )],
+            ),
+            Rule::ChangedTurn => (
+                "WRONG RECORD",
+                &[(
+                    "S3.7",
+                    "Turn order and job numbers carry on: the last number and both named seats keep their values",
+                )],
+            ),
+            Rule::ChangedFields => (
+                "WRONG RECORD",
+                &[(
+                    "S3.4",
+                    "An old record becomes a new one [in which] every other field [than f] is kept",
+                )],
+            ),
+            Rule::ChangeStore => (
+                "WRONG STORE",
+                &[("W5", "[The change-over] is lent no store")],
             ),
         }
     }
@@ -282,7 +366,7 @@ mod tests {
 
     const REFERENCE: &str = include_str!("../../docs/REFERENCE.md");
 
-    const ALL: [Rule; 29] = [
+    const ALL: [Rule; 39] = [
         Rule::Ends,
         Rule::Opening,
         Rule::SubmitAccepted,
@@ -301,6 +385,7 @@ mod tests {
         Rule::RefusalChangesNothing,
         Rule::IdleChangesNothing,
         Rule::SubmitRecord,
+        Rule::SubmitF,
         Rule::SubmitStore,
         Rule::TickRecord,
         Rule::TickStore,
@@ -309,9 +394,18 @@ mod tests {
         Rule::LeaveStore,
         Rule::CountChangesNothing,
         Rule::LoneRun,
+        Rule::EarlierJob,
         Rule::HalfPerStep,
         Rule::LoneService,
         Rule::Wait,
+        Rule::WaitAcross,
+        Rule::FreeAcross,
+        Rule::ChangeAccepted,
+        Rule::ChangeRefused,
+        Rule::ChangedF,
+        Rule::ChangedTurn,
+        Rule::ChangedFields,
+        Rule::ChangeStore,
     ];
 
     fn in_one_line(text: &str) -> String {
@@ -347,7 +441,7 @@ mod tests {
             ALL.map(|rule| rule as usize).to_vec(),
             (0..ALL.len()).collect::<Vec<_>>()
         );
-        assert_eq!(Rule::Wait as usize, ALL.len() - 1);
+        assert_eq!(Rule::ChangeStore as usize, ALL.len() - 1);
         for (id, quotation) in ALL.iter().flat_map(|rule| rule.texts().1) {
             let sentence = sentence(id).unwrap_or_else(|| panic!("docs/REFERENCE.md has no {id}"));
             assert!(

@@ -103,7 +103,7 @@ enum ChoiceName {
 #[derive(clap::Args, Clone)]
 pub struct ChoiceOption {
     /// How the kernel's free number f is chosen: so that the centre has at least twice the weight of each pixel beside, above
-    /// and below it where any f does that, or the smallest, as in the service
+    /// and below it where any f does that, or the smallest
     #[arg(long, value_name = "CHOICE", value_enum, default_value_t = ChoiceName::Binomial, requires = "steps")]
     choice: ChoiceName,
 }
@@ -116,6 +116,18 @@ impl ChoiceOption {
             ChoiceName::Smallest => Choice::Smallest,
         }
     }
+}
+
+/// The choice of a name, in a list.
+pub fn choice(name: &str) -> Result<Choice, String> {
+    let choices = [Choice::Binomial, Choice::Smallest];
+    let found = choices
+        .into_iter()
+        .find(|choice| choice_name(*choice) == name);
+    found.ok_or_else(|| {
+        let names = choices.map(choice_name).join(", ");
+        format!("\"{name}\" is none of {names}")
+    })
 }
 
 /// A choice by the name under which it is typed.

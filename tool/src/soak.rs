@@ -6,7 +6,7 @@ use crate::files;
 use crate::interrupt;
 use crate::judge::{Counts, Judge, Verdict};
 use crate::ledger::Wait;
-use crate::list::{Call, Store};
+use crate::list::{Call, Start, Store};
 use crate::mixture::Mixture;
 use crate::numbers::{counted, long_unsigned, whole};
 use crate::progress::Progress;
@@ -15,6 +15,7 @@ use crate::services::{proved, Opening};
 use crate::shrink::{self, Shortened};
 use crate::watch;
 use reference::random::Random;
+use reference::service::Rules;
 use std::ffi::{OsStr, OsString};
 use std::io::{self, IsTerminal};
 use std::sync::{Arc, Mutex, MutexGuard, PoisonError};
@@ -27,7 +28,11 @@ use std::time::{Duration, Instant};
 Runs random mixtures of calls, wrong ones included, on the service and judges each
 as replay does. The same seed gives the same calls. It stops at the first
 difference, writes the list so far to NAME.list, and a shorter list that still
-shows it to NAME-short.list. A service is opened anew after every so many calls.",
+shows it to NAME-short.list. A service is opened anew after every so many calls,
+the first 64 times after 500 at most. The first service and more than half of the
+others open by the old rules and change over: at once, soon, anywhere, or with the
+last call. Up to the change-over the independent program answers, since the earlier
+release is not linked.",
     after_help = "\
 Examples:
   $ vokhsaot soak --seed 1 --calls 20000"
@@ -59,6 +64,11 @@ const USUAL_CALLS: u64 = 1_000_000;
 const PATIENCE: Duration = Duration::from_secs(30);
 /// Stores that a service may be opened over: their seeds are short.
 const MOST_STORES: u64 = 1_000_000;
+/// A service that changes over soon does so after fewer calls than this.
+const SOON: u64 = 256;
+/// So many services live no more than so many calls, so that a short soak has several change-overs.
+const SHORT_LIVES: u64 = 64;
+const SHORT_LIFE: u64 = 500;
 /// The clock is looked at so often, in calls.
 const BETWEEN_LOOKS: u64 = 256;
 
@@ -128,18 +138,124 @@ enum Limit {
 #[derive(Clone)]
 struct Log {
     opening: u64,
-    store: Store,
+    start: Start,
     calls: Vec<Call>,
+}
+
+/// Where in the life of a service its change-over stands.
+#[derive(Clone, Copy)]
+enum Place {
+    AtOnce,
+    Soon,
+    Anywhere,
+    Last,
+}
+
+/// One of these places is drawn for each service, or none: then it opens by the new rules.
+const PLACES: [Option<Place>; 8] = [
+    Some(Place::AtOnce),
+    Some(Place::Soon),
+    Some(Place::Soon),
+    Some(Place::Anywhere),
+    Some(Place::Last),
+    None,
+    None,
+    None,
+];
+
+impl Place {
+    /// How many calls come before it.
+    fn calls_before(self, random: &mut Random, life: u64) -> u64 {
+        match self {
+            Place::AtOnce => 0,
+            Place::Soon => random.below(life.min(SOON)),
+            Place::Anywhere => random.below(life),
+            Place::Last => life - 1,
+        }
+    }
+}
+
+/// The services of a soak, one after the other: the same ones for the same seed.
+pub struct Lives {
+    seeds: Random,
+    stores: Random,
+    changes: Random,
+    calls: u64,
+    openings: u64,
+}
+
+impl Lives {
+    /// With so many calls from one opening on.
+    pub fn new(seed: u64, calls: u64) -> Lives {
+        Lives {
+            seeds: Random::new(seed),
+            stores: Random::new(!seed),
+            changes: Random::new(seed.rotate_left(32)),
+            calls,
+            openings: 0,
+        }
+    }
+
+    /// The first one changes over soon, so that no soak is without a change-over.
+    pub fn next(&mut self) -> Life {
+        self.openings += 1;
+        let place = match self.openings {
+            1 => Some(Place::Soon),
+            _ => self.changes.pick(&PLACES),
+        };
+        let calls = match self.openings {
+            ..=SHORT_LIVES => self.calls.min(SHORT_LIFE),
+            _ => self.calls,
+        };
+        Life {
+            start: Start {
+                rules: match place {
+                    Some(_) => Rules::Old,
+                    None => Rules::New,
+                },
+                store: Store::Seeded(self.stores.below(MOST_STORES)),
+            },
+            mixture: Mixture::varied(self.seeds.bits()),
+            change: place.map(|place| place.calls_before(&mut self.changes, calls)),
+            calls,
+        }
+    }
+}
+
+/// One service of a soak.
+pub struct Life {
+    pub start: Start,
+    mixture: Mixture,
+    /// After how many calls it changes over; none where it did, or opened by the new rules.
+    change: Option<u64>,
+    /// How many calls it lives.
+    calls: u64,
+}
+
+impl Life {
+    /// The next call, for a service that has done all before it; none where its life is over.
+    pub fn call(&mut self, judge: &Judge) -> Option<Call> {
+        let done = judge.counts().calls;
+        if done >= self.calls {
+            return None;
+        }
+        if self.change.take_if(|calls| done >= *calls).is_some() {
+            return Some(Call::ChangeOver);
+        }
+        let end = self.change.unwrap_or(self.calls);
+        Some(match self.mixture.call(judge.model().record()) {
+            // Ticks of one line end with the life, and where the change-over stands.
+            Call::Tick(count) => Call::Tick(u64::from(count).min(end - done) as u32),
+            call => call,
+        })
+    }
 }
 
 /// A soak in progress.
 struct Soak<'a> {
     opening: Opening<'a>,
-    /// The mixtures' seeds, and the stores'.
-    seeds: Random,
-    stores: Random,
     seed: u64,
-    life: u64,
+    lives: Lives,
     limit: Limit,
     progress: Progress,
     started: Instant,
@@ -167,10 +283,8 @@ impl<'a> Soak<'a> {
         };
         Soak {
             opening,
-            seeds: Random::new(options.seed),
-            stores: Random::new(!options.seed),
             seed: options.seed,
-            life: options.life,
+            lives: Lives::new(options.seed, options.life),
             limit,
             progress,
             started,
@@ -179,7 +293,7 @@ impl<'a> Soak<'a> {
             longest: None,
             log: Arc::new(Mutex::new(Log {
                 opening: 0,
-                store: Store::Zeros,
+                start: Start::USUAL,
                 calls: Vec::new(),
             })),
         }
@@ -204,15 +318,15 @@ impl<'a> Soak<'a> {
         let mut found = None;
         while found.is_none() && !self.is_over(self.counts.calls) {
             self.openings += 1;
-            let store = Store::Seeded(self.stores.below(MOST_STORES));
+            let life = self.lives.next();
+            let start = life.start;
             *self.log() = Log {
                 opening: self.openings,
-                store,
+                start,
                 calls: Vec::new(),
             };
-            let mixture = Mixture::varied(self.seeds.bits());
-            let (mut judge, differences) = Judge::new(self.opening, store);
-            found = self.live(&mut judge, differences, mixture);
+            let (mut judge, differences) = Judge::new(self.opening, start);
+            found = self.live(&mut judge, differences, life);
             self.counts.add(judge.counts());
             self.longest = Wait::longer(self.longest, judge.longest_wait());
         }
@@ -225,13 +339,12 @@ impl<'a> Soak<'a> {
         &mut self,
         judge: &mut Judge,
         mut differences: Vec<Difference>,
-        mut mixture: Mixture,
+        mut life: Life,
     ) -> Option<Found> {
-        while differences.is_empty() && judge.counts().calls < self.life {
-            let call = mixture.call(judge.model().record());
+        while differences.is_empty() {
+            let call = life.call(judge)?;
             let mut times = 0;
-            let is_alive = |judge: &Judge| judge.counts().calls < self.life;
-            while differences.is_empty() && times < call.times() && is_alive(judge) {
+            while differences.is_empty() && times < call.times() {
                 if self.is_over(self.counts.calls + judge.counts().calls) {
                     return None;
                 }
@@ -241,7 +354,7 @@ impl<'a> Soak<'a> {
                 self.progress.advance();
             }
         }
-        (!differences.is_empty()).then(|| Found {
+        Some(Found {
             log: self.log().clone(),
             call: judge.counts().calls,
             differences,
@@ -332,23 +445,23 @@ impl Lists {
             ending(&self.name, ".list"),
             ending(&self.name, "-short.list"),
         );
-        let Log { store, calls, .. } = &found.log;
+        let Log { start, calls, .. } = &found.log;
         let rule = found.differences[0].rule;
-        let shorter = shrink::shorten(opening, *store, calls, rule, PATIENCE);
-        let all = self.list(&found.log, rule, *store, calls);
+        let shorter = shrink::shorten(opening, *start, calls, rule, PATIENCE);
+        let all = self.list(&found.log, rule, *start, calls);
         let mut outputs = vec![(long.as_os_str(), all.into_bytes())];
         let mut text = format!("{}\n", written(&long, calls));
         let Shortened {
-            store: store_left,
+            start: start_left,
             calls: fewer,
             is_least,
         } = shorter;
         if fewer.is_empty() && !calls.is_empty() {
             text += "the same list shows NO difference when it is run again\n";
         } else {
-            let mut list = self.list(&found.log, rule, store_left, &fewer);
+            let mut list = self.list(&found.log, rule, start_left, &fewer);
             text += &written(&short, &fewer);
-            let rest = shrink::rest(&fewer);
+            let rest = shrink::rest(start_left.rules, &fewer);
             if !rest.is_empty() {
                 list += "# The rest hands jobs over, so that a sound service is judged good.\n";
                 list += &lines(&rest);
@@ -368,7 +481,7 @@ impl Lists {
     /// Writes the list of a call that does not come back; what is said about it.
     fn write_hanging(&self, log: &Log) -> String {
         let long = ending(&self.name, ".list");
-        let list = self.list(log, Rule::Ends, log.store, &log.calls);
+        let list = self.list(log, Rule::Ends, log.start, &log.calls);
         match files::write_all(&[(&long, list.into_bytes())]) {
             Ok(()) => format!("{}\n", written(&long, &log.calls)),
             Err(failure) => format!("{failure}\n"),
@@ -376,14 +489,14 @@ impl Lists {
     }
 
     /// A list with its head, whose last call shows the rule broken.
-    fn list(&self, log: &Log, rule: Rule, store: Store, calls: &[Call]) -> String {
+    fn list(&self, log: &Log, rule: Rule, start: Start, calls: &[Call]) -> String {
         let Lists { command, seed, .. } = self;
         let shows = format!("call {} shows {}", single_calls(calls), rule.name());
         let head = format!(
             "# vokhsaot {command} --seed {seed}, opening {}: {shows}\n",
             log.opening
         );
-        head + &store.line() + &lines(calls)
+        head + &start.lines(calls) + &lines(calls)
     }
 }
 
@@ -412,6 +525,32 @@ fn written(name: &OsStr, calls: &[Call]) -> String {
 #[cfg(test)]
 mod tests {
     use super::*;
+
+    /// Services that open by either rules, with change-overs at once, somewhere and at the end, and lives of their length.
+    #[test]
+    fn lives() {
+        let mut lives = Lives::new(1, 3000);
+        let (mut new, mut places) = (0, Vec::new());
+        for number in 1..=200 {
+            let life = lives.next();
+            assert_eq!(life.calls, if number <= 64 { 500 } else { 3000 });
+            assert_eq!(life.change.is_some(), life.start.rules == Rules::Old);
+            match life.change {
+                None => new += 1,
+                Some(place) => places.push((place, life.calls)),
+            }
+            assert!(number > 1 || life.change.is_some_and(|place| place < SOON));
+        }
+        assert!((50..=100).contains(&new), "{new}");
+        let count = |is_one: fn(&&(u64, u64)) -> bool| places.iter().filter(is_one).count();
+        assert!(count(|(place, _)| *place == 0) > 10);
+        assert!(count(|(place, calls)| place + 1 == *calls) > 10);
+        assert!(count(|(place, _)| (1..SOON).contains(place)) > 20);
+        assert!(count(|(place, calls)| *place >= SOON && place + 1 < *calls) > 10);
+        assert!(places.iter().all(|(place, calls)| place < calls));
+        // The shortest life has room for the change-over alone.
+        assert_eq!(Lives::new(1, 1).next().change, Some(0));
+    }
 
     #[test]
     fn durations() {

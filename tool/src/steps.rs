@@ -8,10 +8,7 @@ use crate::files;
 use crate::kernel::explained;
 use crate::numbers::unsigned;
 use crate::pictures::Picture;
-use crate::services::JOB_CHOICE;
 use crate::shape::{RunOptions, Work};
-use reference::kernel::Kernel;
-use reference::smooth::step;
 use std::ffi::OsString;
 use std::ops::Range;
 use vokhsaot::{shown, Service, BUFFER_PIXELS, SEATS};
@@ -104,7 +101,7 @@ fn readings(work: Work, place: Place, picture: Picture) -> Result<Vec<Reading>, 
         work,
         width: width as usize,
         height: height as usize,
-        source: Source::of(work)?,
+        service: Service::new(),
     };
     let mut readings = stepper.readings(start, place)?;
     // Of the run the last two steps are left: the last one is shown, the one before it stands in the other picture.
@@ -178,36 +175,14 @@ impl Part {
     }
 }
 
-/// Where single steps of a run come from.
-enum Source {
-    /// Ticks of the library's service, which is empty between two of them.
-    Ticks(Service),
-    /// The independent program, with the run's weights.
-    Independent(Kernel),
-}
-
-impl Source {
-    /// A job goes by one choice of f, the run perhaps by another; its weights tell whether that matters.
-    fn of(work: Work) -> Result<Source, Failure> {
-        let kernel = work.kernel()?;
-        Ok(if kernel == work.by(JOB_CHOICE).kernel()? {
-            Source::Ticks(Service::new())
-        } else {
-            Source::Independent(Kernel {
-                weights: kernel.weights,
-                sum: kernel.sum,
-            })
-        })
-    }
-}
-
 /// One run's steps over parts of its picture, one at a time.
 struct Stepper {
     work: Work,
     /// The sides of the whole picture.
     width: usize,
     height: usize,
-    source: Source,
+    /// Its ticks are the steps; it is empty between two of them.
+    service: Service,
 }
 
 impl Stepper {
@@ -254,11 +229,8 @@ impl Stepper {
     /// One step of a tile, as a picture of its own.
     fn step_tile(&mut self, tile: &mut Part) -> Result<(), Failure> {
         let (width, height) = (tile.columns.len() as u32, tile.rows.len() as u32);
-        match &mut self.source {
-            Source::Ticks(service) => tick(service, self.work, width, height, &mut tile.pixels)?,
-            Source::Independent(kernel) => tile.pixels = step(kernel, &tile.pixels, width, height),
-        }
-        Ok(())
+        let Stepper { work, service, .. } = self;
+        tick(service, *work, width, height, &mut tile.pixels)
     }
 
     /// The pixel at a place among its neighbours, of a part that has them all.
@@ -275,7 +247,7 @@ impl Stepper {
     }
 }
 
-/// One step of a picture: the first tick of a job with the run's shape and all its steps, so with its kernel.
+/// One step of a picture: the first tick of a job with the run's choice, its shape and all its steps, so with its kernel.
 fn tick(
     service: &mut Service,
     work: Work,
@@ -283,7 +255,12 @@ fn tick(
     height: u32,
     pixels: &mut [u16],
 ) -> Result<(), Failure> {
-    let number = service.submit(work.shape, work.steps, width, height, pixels)?;
+    let Work {
+        choice,
+        shape,
+        steps,
+    } = work;
+    let number = service.submit_by(choice, shape, steps, width, height, pixels)?;
     if service.tick()? != Some(number) {
         return Err(Failure::Input(
             "a tick did NOT serve the only job".to_owned(),

@@ -218,43 +218,56 @@ fn helps_name_the_choices() {
         let help = folder.run(&format!("{command} --help"), b"").text();
         let words = help.split_whitespace().collect::<Vec<&str>>().join(" ");
         assert!(words.contains("--choice <CHOICE> How "), "{help}");
-        let end = ", as in the service: binomial, smallest [default: binomial]";
+        let end = ", or the smallest: binomial, smallest [default: binomial]";
         assert!(words.contains(end), "{help}");
     }
 }
 
-/// What a service hands over is the run by the choice smallest, and mostly not that of who names none; and so it is judged.
+/// What a service hands over is the run by the choice that the submit names, or of who names none, and mostly not by the other;
+/// and so it is judged. A job from before a change-over has the smallest.
 #[test]
-fn jobs_go_by_the_smallest() {
+fn jobs_go_by_their_choice() {
     let mut random = Random::new(44);
     let mut apart = 0;
-    for _ in 0..100 {
+    for _ in 0..40 {
         let (shape, steps) = work(&mut random);
         let pixels = random_pixels(&mut random, 35);
         let folder = Folder::new("service");
         folder.file("in.pgm", plain(7, 5, 65535, &pixels));
         let words = option(shape).replacen("--", "", 1).replace(',', " ");
-        let list = format!(
-            "submit {words} steps {steps} file in.pgm\ntick {steps}\ncollect 1 to handed.pgm\n"
-        );
-        folder.file("one.list", list);
-        let text = folder.run("replay --quiet one.list", b"").text();
-        assert!(text.starts_with("verdict: good: "), "{text}");
-        let compare = |choice: &str| {
-            let work = format!("{} --steps {steps} {choice}", option(shape));
-            let ran = folder.run(&format!("compare {work} in.pgm handed.pgm"), b"");
-            let text = String::from_utf8(ran.stdout).unwrap();
-            (ran.status, text.lines().last().unwrap().to_owned())
-        };
-        let equal = format!("library's run, steps {steps}: equal");
-        assert_eq!(compare("--choice smallest"), (0, equal.clone()));
-        let (status, told) = compare("");
-        if status == 1 {
-            assert!(told.ends_with("; equal with --choice smallest"), "{told}");
-            apart += 1;
-        } else {
-            assert_eq!((status, told), (0, equal));
+        let half = steps / 2;
+        for (named, change, choice, other) in [
+            ("", "", "binomial", "smallest"),
+            ("choice binomial ", "", "binomial", "smallest"),
+            ("choice smallest ", "", "smallest", "binomial"),
+            ("", "change over\n", "smallest", "binomial"),
+        ] {
+            let ticks = |count: u32| "tick\n".repeat(count as usize);
+            let list = format!(
+                "submit {words} steps {steps} {named}file in.pgm\n{}{change}{}collect 1 to handed.pgm\n",
+                ticks(half),
+                ticks(steps - half)
+            );
+            folder.file("one.list", list);
+            let text = folder.run("replay --quiet one.list", b"").text();
+            assert!(text.starts_with("verdict: good: "), "{text}");
+            let compare = |choice: &str| {
+                let work = format!("{} --steps {steps} --choice {choice}", option(shape));
+                let ran = folder.run(&format!("compare {work} in.pgm handed.pgm"), b"");
+                let text = String::from_utf8(ran.stdout).unwrap();
+                (ran.status, text.lines().last().unwrap().to_owned())
+            };
+            let equal = format!("library's run, steps {steps}: equal");
+            assert_eq!(compare(choice), (0, equal.clone()));
+            let (status, told) = compare(other);
+            if status == 1 {
+                let end = format!("; equal with --choice {choice}");
+                assert!(told.ends_with(&end), "{told}");
+                apart += 1;
+            } else {
+                assert_eq!((status, told), (0, equal));
+            }
         }
     }
-    assert!((20..=80).contains(&apart), "{apart}");
+    assert!((32..=128).contains(&apart), "{apart}");
 }

@@ -3,14 +3,17 @@
 mod common;
 
 use common::{numbers, plain, Folder, TOOL};
-use reference::kernel::Covariance;
+use reference::kernel::{Choice, Covariance};
 use reference::lists::{Calls, Model};
 use reference::random::Random;
-use reference::service::STORE_PIXELS;
+use reference::service::{Rules, STORE_PIXELS};
 use reference::shape::{Direction, Shape};
 use std::collections::{BTreeMap, BTreeSet};
 use std::io::{BufRead, BufReader, Write};
 use std::process::{Command, Stdio};
+
+/// What `replay` prints first for a list that opens by the old rules.
+const OPENED_OLD: &str = "opened by the old rules: up to the change-over the independent program answers, since the earlier release is not linked\n";
 
 /// What `replay` prints for a list that is judged good, without its verdict.
 fn replay(list: &str) -> String {
@@ -223,6 +226,114 @@ fn answers_come_as_the_calls_do() {
     assert!(child.wait().unwrap().success());
 }
 
+/// A job is finished at the change-over, one half done; later submits name a choice or none. A second change-over is refused.
+#[test]
+fn a_change_over() {
+    let spot = "size 3 3 pixels 0 0 0 0 1600 0 0 0 0";
+    let list = format!(
+        "submit round 0.5 steps 1 {spot}\n\
+         submit round 1 steps 2 {spot}\n\
+         tick 2\n\
+         change over\n\
+         submit round 0.5 steps 1 {spot}\n\
+         submit round 0.5 steps 1 choice smallest {spot}\n\
+         tick 3\n\
+         change over\n\
+         collect 1 to one.pgm\n\
+         collect 2 to two.pgm\n\
+         collect 3 to three.pgm\n\
+         collect 4 to four.pgm\n"
+    );
+    let folder = Folder::new("change");
+    folder.file("change.list", &list);
+    let expected = format!(
+        "{OPENED_OLD}\
+         call 1, line 1: submit: job 1 [14 free]\n\
+         call 2, line 2: submit: job 2 [12 free]\n\
+         call 3, line 3: tick: job 1 [12 free]\n\
+         call 4, line 3: tick: job 2 [12 free]\n\
+         call 5, line 4: change over: done [12 free]\n\
+         call 6, line 5: submit: job 3 [10 free]\n\
+         call 7, line 6: submit: job 4 [8 free]\n\
+         call 8, line 7: tick: job 3 [8 free]\n\
+         call 9, line 7: tick: job 4 [8 free]\n\
+         call 10, line 7: tick: job 2 [8 free]\n\
+         call 11, line 8: change over: refused (2): The service record is not in order, or the store's length is not 16,384. [8 free]\n\
+         call 12, line 9: collect 1 to one.pgm: job 1 [10 free]\n\
+         job 1: equals its lone run; 0.000 from the exact run (at most 0.5); finished by tick 1 (at most 8)\n\
+         call 13, line 10: collect 2 to two.pgm: job 2 [12 free]\n\
+         job 2: equals its lone run; 0.000 from the exact run (at most 1.0); finished by tick 5 (at most 16)\n\
+         call 14, line 11: collect 3 to three.pgm: job 3 [14 free]\n\
+         job 3: equals its lone run; 0.000 from the exact run (at most 0.5); finished by tick 1 (at most 8)\n\
+         call 15, line 12: collect 4 to four.pgm: job 4 [16 free]\n\
+         job 4: equals its lone run; 0.000 from the exact run (at most 0.5); finished by tick 2 (at most 8)\n\
+         verdict: good: 15 calls (1 refused; 4 by the old rules, made by the independent program), 30 answers judged, 4 jobs handed over, longest wait 3 of at most 8 ticks (38 %)\n"
+    );
+    assert_eq!(folder.run("replay change.list", b"").text(), expected);
+    let pixels = |name: &str| numbers(&folder.read(name)).unwrap()[3..].to_vec();
+    let hollow = [0, 400, 0, 400, 0, 400, 0, 400, 0];
+    assert_eq!(pixels("one.pgm"), hollow);
+    assert_eq!(
+        pixels("two.pgm"),
+        [200, 100, 200, 100, 400, 100, 200, 100, 200]
+    );
+    assert_eq!(
+        pixels("three.pgm"),
+        [100, 200, 100, 200, 400, 200, 100, 200, 100]
+    );
+    assert_eq!(pixels("four.pgm"), hollow);
+    // Line by line it has to be said first; then all but the numbers of the lines is the same.
+    let ran = folder.run("replay", list.as_bytes());
+    let message = "vokhsaot: standard input: line 4: a list that comes line by line says \"rules old\" before all calls where it changes over (\"rules new\" where that is to be refused)\n";
+    assert_eq!((ran.stderr.as_str(), ran.status), (message, 2));
+    let told = folder.run("replay -q", format!("rules old\n{list}").as_bytes());
+    assert_eq!(
+        told.text(),
+        expected.lines().last().unwrap().to_owned() + "\n"
+    );
+    // A choice before it is no call.
+    folder.file(
+        "early.list",
+        format!(
+            "{}{list}",
+            list.replace("steps 1 ", "steps 1 choice smallest ")
+        ),
+    );
+    let message = "early.list: line 1: a submit before the change-over names no choice: by the old rules its job has the smallest f";
+    folder
+        .run("replay early.list", b"")
+        .assert_failed(2, message);
+}
+
+/// At the very beginning, at the end, and where a service by the old rules never changes over.
+#[test]
+fn change_overs_at_the_ends() {
+    let job = "submit round 0.5 steps 1 size 1 1 pixels 7\ntick\ncollect 1\n";
+    for (list, old, refused) in [
+        (format!("rules old\nchange over\n{job}"), 0, 0),
+        (format!("rules old\n{job}change over\n"), 3, 0),
+        (format!("rules old\n{job}"), 3, 0),
+        (format!("rules new\nchange over\n{job}"), 0, 1),
+        (
+            format!("rules old\nchange over\nchange over\n{job}change over\n"),
+            0,
+            2,
+        ),
+    ] {
+        let ran = Folder::new("ends").run("replay -q", list.as_bytes());
+        let (_, verdict) = split_verdict(&ran.text());
+        let by_old = match old {
+            0 => String::new(),
+            _ => format!("; {old} by the old rules, made by the independent program"),
+        };
+        let counts = format!(" calls ({refused} refused{by_old}), ");
+        assert!(
+            verdict.starts_with("verdict: good: ") && verdict.contains(&counts),
+            "{verdict}"
+        );
+    }
+}
+
 /// Pictures go in and out by their files, as the command line's do.
 #[test]
 fn pictures_through_the_service() {
@@ -248,7 +359,7 @@ fn pictures_through_the_service() {
     let numbers = |name: &str| numbers(&folder.read(name)).unwrap();
     assert_eq!(
         numbers("one.pgm"),
-        [3, 3, 1600, 0, 400, 0, 400, 0, 400, 0, 400, 0]
+        [3, 3, 1600, 100, 200, 100, 200, 400, 200, 100, 200, 100]
     );
     assert_eq!(
         numbers("two.pgm"),
@@ -322,6 +433,7 @@ impl Other {
                     .withdraw(number(1))
                     .map(|job| format!("job {job}")),
                 "free" => self.model.free().map(|count| count.to_string()),
+                "change" => self.model.change_over().map(|()| "done".to_owned()),
                 other => panic!("{other}"),
             };
             let answer = answer.unwrap_or_else(|refusal| format!("refused ({refusal})"));
@@ -373,39 +485,56 @@ impl Other {
             let pixels = words[place("pixels") + 1..].iter();
             pixels.map(|word| word.parse().unwrap()).collect()
         };
-        let number = self.model.submit(shape, steps, width, height, &picture)?;
+        let choice = words.contains(&"choice").then(|| place("choice") + 1);
+        let choice = choice.map(|place| match words[place] {
+            "smallest" => Choice::Smallest,
+            "binomial" => Choice::Binomial,
+            other => panic!("{other}"),
+        });
+        let number = self
+            .model
+            .submit(choice, shape, steps, width, height, &picture)?;
         self.lengths.insert(number, picture.len());
         Ok(number)
     }
 }
 
-/// Replays a mixture, answer by answer as the independent program gives them; the answers that came up.
-fn check_mixture(list: &str) -> BTreeSet<String> {
+/// Replays a mixture, answer by answer as the independent program gives them; the answers that came up, and how many jobs were
+/// handed over.
+fn check_mixture(list: &str) -> (BTreeSet<String>, usize) {
+    let rules = match list.lines().nth(1) {
+        Some("rules old") => Rules::Old,
+        Some("rules new") => Rules::New,
+        other => panic!("{other:?}"),
+    };
     let mut other = Other {
-        model: Model::open(vec![0; STORE_PIXELS]),
+        model: Model::open(rules, vec![0; STORE_PIXELS]),
         lengths: BTreeMap::new(),
         seen: BTreeSet::new(),
     };
     let mut expected = Vec::new();
-    for (place, line) in list.lines().enumerate().skip(1) {
+    for (place, line) in list.lines().enumerate().skip(2) {
         for answer in other.answers(line) {
             let call = expected.len() + 1;
             expected.push(format!("call {call}, line {}: {answer}", place + 1));
         }
     }
     let text = replay(list);
-    let (jobs, calls): (Vec<&str>, Vec<&str>) =
-        text.lines().partition(|line| line.starts_with("job "));
+    let answers = text.strip_prefix(OPENED_OLD);
+    assert_eq!(answers.is_some(), rules == Rules::Old);
+    let (jobs, calls): (Vec<&str>, Vec<&str>) = answers
+        .unwrap_or(&text)
+        .lines()
+        .partition(|line| line.starts_with("job "));
     assert_eq!(calls.len(), expected.len());
     for (given, expected) in calls.iter().zip(&expected) {
         assert!(given.starts_with(expected), "{given} for {expected}");
     }
-    assert!(jobs.len() > 20, "{}", jobs.len());
-    for job in jobs {
+    for job in &jobs {
         assert!(job.contains(": equals its lone run; "), "{job}");
         assert!(!job.contains("MORE") && !job.contains("NOT"), "{job}");
     }
-    other.seen
+    (other.seen, jobs.len())
 }
 
 #[test]
@@ -419,15 +548,46 @@ fn mixtures_of_the_independent_program() {
             list.lines().next(),
             Some(format!("# vokhsaot {line}").as_str())
         );
-        assert_eq!(list.lines().count(), 401);
+        assert_eq!(list.lines().count(), 402);
         let again = format!("mixture --calls=400 --seed={seed}");
         assert_eq!(list, folder.run(&again, b"").text());
-        seen.append(&mut check_mixture(&list));
+        let (mut answers, jobs) = check_mixture(&list);
+        assert!(jobs > 20, "{jobs}");
+        seen.append(&mut answers);
     }
     assert!(seen.contains("idle"));
-    for refusal in 3..=12 {
+    for refusal in 2..=12 {
         assert!(seen.contains(&format!("refused ({refusal})")), "{refusal}");
     }
+}
+
+/// A mixture with its change-over after each of its lines: the calls are the same wherever it stands.
+#[test]
+fn change_overs_at_every_place() {
+    let folder = Folder::new("places");
+    let calls = 120;
+    let plain = |line: &str| match line {
+        "change over" => "free".to_owned(),
+        _ => line
+            .replace(" choice binomial", "")
+            .replace(" choice smallest", ""),
+    };
+    let mut same: Option<Vec<String>> = None;
+    for place in 0..=calls {
+        let line = format!("mixture --seed 5 --calls {calls} --change-over {place}");
+        let list = folder.run(&line, b"").text();
+        let mut lines: Vec<&str> = list.lines().collect();
+        assert_eq!(lines[..2], [&format!("# vokhsaot {line}"), "rules old"]);
+        assert_eq!(lines.remove(2 + place), "change over");
+        assert!(!lines[2..2 + place].contains(&"change over"));
+        let others: Vec<String> = lines[2..].iter().map(|line| plain(line)).collect();
+        assert_eq!(same.get_or_insert(others.clone()), &others, "{place}");
+        let (seen, jobs) = check_mixture(&list);
+        assert!(seen.contains("done") && jobs > 3, "{jobs} at {place}");
+    }
+    let message = "--change-over: there are 120 lines (see vokhsaot mixture --help)";
+    let line = format!("mixture --seed 5 --calls {calls} --change-over 121");
+    folder.run(&line, b"").assert_failed(2, message);
 }
 
 #[test]

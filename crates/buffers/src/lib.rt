@@ -1,13 +1,18 @@
-// The buffer pool in code (REFERENCE: the store): copies into it and out of it, and a step from one of its places to
-// another. An inner crate: its functions ask of their callers that the places lie inside.
+// The buffer pool in code (REFERENCE: the store): copies into it and out of it, a step from one of its places to
+// another, and of a slot's picture. An inner crate: its functions ask of their callers that the places lie inside.
 ghost use mathlib.Core.Path.{_≡_};
-ghost use Prim.Native.Nat.{_+_, _*_, _≤_};
+ghost use Prim.Native.Nat.{_+_, _*_, _<_, _≤_};
 ghost use lib.ListN.{length};
 ghost use Rattle.averaging.specs.Steps.{stepOf};
 ghost use Rattle.row_core.specs.Prepared.{StepKernel, kernelOfCoefficients, Prepared};
-ghost use Rattle.machine.specs.Store.{part, put};
-ghost use Rattle.buffers.specs.Places.{Between};
+ghost use Rattle.machine.specs.Rules.{currentRules};
+ghost use Rattle.machine.specs.Slots.{slotCount};
+ghost use Rattle.machine.specs.Store.{part, put, bufferAfter, stepsDone};
+ghost use Rattle.machine.specs.Calls.{nextImage};
+ghost use Rattle.buffers.specs.Places.{Between, Ready};
 use kernel::Kernel;
+use machine::BUFFERS_PER_SLOT;
+use machine::Slot;
 use row_core::Coefficients;
 
 fn copy(source: &[u16], target: &mut [u16])
@@ -83,4 +88,35 @@ pub fn step_between(
         let mut lines = stepping::blank_lines();
         step_loaded(store, &mut lines, from, to, width, height, coefficients);
     }
+}
+
+// The buffers of a slot as many as places are counted.
+const BUFFERS_OF_SLOT: usize = BUFFERS_PER_SLOT as usize;
+
+// The place where the picture of a slot stands after so many steps: each step goes to the slot's other buffer.
+pub fn buffer_after(place: usize, done: usize) -> usize
+    requires { ⌜ place < slotCount ⌝ }
+    ensures { λ r. ⌜ r ≡ bufferAfter currentRules place done ⌝ }
+{
+    limits::BUFFER_PIXELS * (BUFFERS_OF_SLOT * place + done % BUFFERS_OF_SLOT)
+}
+
+// One step of the picture of a slot, from its buffer to the slot's other one, by the free number that the slot holds.
+pub fn step_slot(store: &mut [u16], slot: Slot, place: usize)
+    requires { ⌜ Ready (length (now store)) slot place ⌝ }
+    ensures { λ _. ⌜ now (store .exit) ≡ put (bufferAfter currentRules place (stepsDone slot + 1)) (nextImage currentRules (now (store .entry)) place slot) (now (store .entry)) ⌝ }
+{
+    let answer = kernel::kernel_at(slot.xx, slot.xy, slot.yy, slot.free, slot.steps);
+    let kernel = answer.kernel;
+    let done = (slot.steps - slot.left) as usize;
+    let from = buffer_after(place, done);
+    let to = buffer_after(place, done + 1);
+    step_between(
+        store,
+        from,
+        to,
+        slot.width as usize,
+        slot.height as usize,
+        kernel,
+    );
 }

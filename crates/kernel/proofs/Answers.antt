@@ -1,6 +1,6 @@
 -- What the kernel call answers, once the signs are off: the existence test and the nine weights in naturals. Assumes
 -- nothing.
-use mathlib.Core.Path.{_≡_, ap, _∙_}
+use mathlib.Core.Path.{_≡_, refl, sym, ap, _∙_}
 use mathlib.Core.Bool.{true, false, true≢false}
 use mathlib.Core.List.{List, [], _∷_, map}
 use Prim.Native.Nat.{ℕ, _+_, _-_, _*_, _≤_, _<_, min, max}
@@ -11,13 +11,18 @@ use lib.Dec.{leb}
 use lib.IntN.{ℤ, pos, negsuc, natAbs}
 use lib.Signed.{ltZ}
 use Rattle.limits.specs.Limits.{stepsInRange}
+use Rattle.limits.specs.Errors.{_otherwise_}
+use Rattle.limits.specs.declared.Outcome.{Outcome}
 use Rattle.limits.specs.declared.Outcome.the-variants.{Accepted, Refused}
-use Rattle.limits.specs.declared.ErrorCode.the-variants.{NoKernel}
+use Rattle.limits.specs.declared.ErrorCode.{ErrorCode}
+use Rattle.limits.specs.declared.ErrorCode.the-variants.{StepsOutOfRange, NoKernel}
+use Rattle.limits.proofs.Checks.{all-hold}
+use Rattle.kernel.specs.declared.FreeAnswer.{FreeAnswer}
 use Rattle.kernel.specs.declared.Choice.{Choice}
 use Rattle.kernel.specs.Molecule.{unitsOf, sumOf, kernelWith}
-use Rattle.kernel.specs.Choice.{kernelBy}
+use Rattle.kernel.specs.Choice.{freeBy, kernelBy}
 use Rattle.kernel.specs.Existence.{kernelExists}
-use Rattle.kernel.specs.Answer.{noKernel, kernelAnswer}
+use Rattle.kernel.specs.Answer.{noKernel, answerWith, kernelChecks, kernelAnswer, freeWith, freeAnswer}
 use Rattle.kernel.proofs.Plain.{unsigned, exists-plain, none-x, none-y, plain, Between, weights}
 
 pub absent : (choice : Choice) (x z y : ℤ) (k : ℕ) → stepsInRange k ≡ true → kernelExists x z y (unitsOf k) ≡ false
@@ -27,6 +32,34 @@ absent choice x z y k s e = rw (s, e)
 pub present : (choice : Choice) (x z y : ℤ) (k : ℕ) → stepsInRange k ≡ true → kernelExists x z y (unitsOf k) ≡ true
     → kernelAnswer choice x z y k ≡ record { outcome = Accepted; kernel = kernelBy choice x z y k }
 present choice x z y k s e = rw (s, e)
+
+-- and of the free number alone
+pub free-absent : (choice : Choice) (x z y : ℤ) (k : ℕ) → stepsInRange k ≡ true → kernelExists x z y (unitsOf k) ≡ false
+    → freeAnswer choice x z y k ≡ record { outcome = Refused NoKernel; free = 0 }
+free-absent choice x z y k s e = rw (s, e)
+
+pub free-present : (choice : Choice) (x z y : ℤ) (k : ℕ) → stepsInRange k ≡ true → kernelExists x z y (unitsOf k) ≡ true
+    → freeAnswer choice x z y k ≡ record { outcome = Accepted; free = freeBy choice x z y k }
+free-present choice x z y k s e = rw (s, e)
+
+pub free-outcome : (o : Outcome) (f : ℕ) → freeWith o f .outcome ≡ o
+free-outcome Accepted f = refl
+free-outcome (Refused code) f = refl
+
+-- an accepted answer passed both checks, and holds the free number; one that is refused is refused with the same code where the
+-- kernel is asked for
+pub free-accepted : (choice : Choice) (x z y : ℤ) (k : ℕ) (answer : FreeAnswer) → answer ≡ freeAnswer choice x z y k → answer .outcome ≡ Accepted
+    → (stepsInRange k ≡ true) × (kernelExists x z y (unitsOf k) ≡ true) × (answer .free ≡ freeBy choice x z y k)
+free-accepted choice x z y k answer is e =
+    let h =
+    all-hold ((stepsInRange k otherwise StepsOutOfRange) ∷ (kernelExists x z y (unitsOf k) otherwise NoKernel) ∷ [])
+    (sym (ap (λ a. a .outcome) is ∙ free-outcome (kernelChecks x z y k) (freeBy choice x z y k)) ∙ e) in
+    (h .0, h .1 .0, ap (λ a. a .free) (is ∙ free-present choice x z y k (h .0) (h .1 .0)))
+
+pub free-refused : (choice : Choice) (x z y : ℤ) (k : ℕ) (answer : FreeAnswer) (code : ErrorCode) → answer ≡ freeAnswer choice x z y k
+    → answer .outcome ≡ Refused code → kernelAnswer choice x z y k ≡ record { outcome = Refused code; kernel = noKernel }
+free-refused choice x z y k answer code is e =
+    ap (λ o. answerWith o (kernelBy choice x z y k)) (sym (ap (λ a. a .outcome) is ∙ free-outcome (kernelChecks x z y k) (freeBy choice x z y k)) ∙ e)
 
 pub negative-x : (x z y : ℤ) (m : ℕ) → ltZ x (pos 0) ≡ true → kernelExists x z y m ≡ false
 negative-x (pos a) z y m h = let g = ltb-true a 0 h in absurd (omega arith)
@@ -65,7 +98,7 @@ made-with a z b n k h = ap (λ ws. record { weights = map natAbs ws; sum = sumOf
 
 -- two variances that are not negative are the naturals that the code works with
 pub by-size : (choice : Choice) (x z y : ℤ) (k : ℕ) → ltZ x (pos 0) ≡ false → ltZ y (pos 0) ≡ false
-    → kernelBy choice (pos (natAbs x)) z (pos (natAbs y)) k ≡ kernelBy choice x z y k
+    → freeBy choice (pos (natAbs x)) z (pos (natAbs y)) k ≡ freeBy choice x z y k
 by-size choice x z y k h g = rw (← unsigned x h, ← unsigned y g)
 
 -- the two diagonals, by the sign of xy

@@ -7,3 +7,4 @@ pub mod Theorems
 pub mod Centre
 pub mod Examples
 pub mod Choices
+pub mod Bounds

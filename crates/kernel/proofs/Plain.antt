@@ -84,7 +84,7 @@ pub exists-plain : (a : ℕ) (xy : ℤ) (b m : ℕ) → kernelExists (pos a) xy 
 unfolding kernelExists
 exists-plain a xy b m = ap₂ leZ (free a xy b m) (choose-smaller a b)
 
-no-negative-x : (n a : ℕ) (z : ℤ) → leZ (pos n) (smaller (negsuc a) z) ≡ false
+pub no-negative-x : (n a : ℕ) (z : ℤ) → leZ (pos n) (smaller (negsuc a) z) ≡ false
 no-negative-x n a (pos b) = refl
 no-negative-x n a (negsuc b) = go (leb b a)
   where
@@ -92,7 +92,7 @@ no-negative-x n a (negsuc b) = go (leb b a)
     go true = refl
     go false = refl
 
-no-negative-y : (n b : ℕ) (z : ℤ) → leZ (pos n) (smaller z (negsuc b)) ≡ false
+pub no-negative-y : (n b : ℕ) (z : ℤ) → leZ (pos n) (smaller z (negsuc b)) ≡ false
 no-negative-y n b (pos a) = refl
 no-negative-y n b (negsuc a) = no-negative-x n a (negsuc b)
 

@@ -3,7 +3,7 @@
 use Prim.Native.Nat.{ℕ, _+_, _/_}
 use mathlib.Core.Bool.{cond}
 use lib.Dec.{eqb}
-use lib.IntN.{ℤ, pos, negsuc, negℤ, _+ℤ_, _-ℤ_}
+use lib.IntN.{ℤ, pos, negsuc, negℤ, natAbs, _+ℤ_, _-ℤ_}
 use Rattle.kernel.specs.declared.Kernel.{Kernel}
 use Rattle.kernel.specs.declared.Choice.{Choice}
 use Rattle.kernel.specs.declared.Choice.the-variants.{Binomial, Smallest}
@@ -27,6 +27,11 @@ freeNumberBy Smallest xx xy yy m = freeNumber xx xy yy m
 -- the kernel of a covariance and a step count, by a choice
 abbrev pub kernelBy : Choice → ℤ → ℤ → ℤ → ℕ → Kernel
 kernelBy choice xx xy yy k = kernelWith xx xy yy (freeNumberBy choice xx xy yy (unitsOf k)) k
+
+-- f as the service's record holds it, a whole number without a sign: where a kernel exists it is f itself (`free-is` of
+-- proofs/Bounds)
+abbrev pub freeBy : Choice → ℤ → ℤ → ℤ → ℕ → ℕ
+freeBy choice xx xy yy k = natAbs (freeNumberBy choice xx xy yy (unitsOf k))
 
 -- "a caller of a direct run who names none, and the bench program, get the new one"
 abbrev pub defaultChoice : Choice

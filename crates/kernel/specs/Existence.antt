@@ -1,6 +1,6 @@
 -- When a kernel exists: the test of REFERENCE, and the wide definition that it is held to. Definitions only.
 use mathlib.Core.Path.{_≡_}
-use mathlib.Core.Bool.{Bool}
+use mathlib.Core.Bool.{Bool, _&&_}
 use mathlib.Core.List.{List}
 use Prim.Native.Nat.{ℕ, _<_}
 use lib.ListN.{length}
@@ -12,6 +12,11 @@ use Rattle.kernel.specs.Molecule.{freeNumber, smaller}
 -- "A kernel exists exactly when that [the free number] is at most the smaller of xx and yy"
 unfoldable pub kernelExists : ℤ → ℤ → ℤ → ℕ → Bool
 kernelExists xx xy yy m = leZ (freeNumber xx xy yy m) (smaller xx yy)
+
+-- "f between the two bounds that make all weights nonnegative": from the larger of |xy| and xx + yy − M, so that no diagonal weight
+-- and not the centre is below 0, to the smaller of xx and yy, so that no side is
+unfoldable pub freeFits : ℤ → ℤ → ℤ → ℕ → ℕ → Bool
+freeFits xx xy yy f m = leZ (freeNumber xx xy yy m) (pos f) && leZ (pos f) (smaller xx yy)
 
 -- "The definition it is held to is wider: nine nonnegative whole weights of any common positive sum, mirror-symmetric or
 -- not, mean zero, second moments xx/M, xy/M, yy/M". Both sides of a moment's equation are taken times M and the sum.

@@ -42,6 +42,6 @@ molecule xx xy yy f m =
 unfoldable pub kernelWith : ℤ → ℤ → ℤ → ℤ → ℕ → Kernel
 kernelWith xx xy yy f k = record { weights = map natAbs (molecule xx xy yy f (unitsOf k)); sum = sumOf k }
 
--- the kernel of a covariance and a step count, by the smallest free number: the service's, and a caller's who names "smallest"
+-- the kernel of a covariance and a step count, by the smallest free number: that of a caller who names "smallest", and of jobs by the old rules
 abbrev pub kernelOf : ℤ → ℤ → ℤ → ℕ → Kernel
 kernelOf xx xy yy k = kernelWith xx xy yy (freeNumber xx xy yy (unitsOf k)) k

@@ -4,12 +4,13 @@
 ghost use mathlib.Core.Path.{_≡_};
 ghost use mathlib.Core.List.{_∷_, []};
 ghost use Prim.Native.Nat.{ℕ, _+_, _-_, _*_, _/_, _≤_, max, min};
-ghost use mathlib.Core.Bool.{true};
+ghost use mathlib.Core.Bool.{true, _&&_};
 ghost use lib.IntN.{ℤ, pos, natAbs};
 ghost use Rattle.limits.specs.Limits.{stepsInRange};
 ghost use Rattle.kernel.specs.Molecule.{unitsOf, kernelWith};
 ghost use Rattle.kernel.specs.Choice.{freeNumberBy, choiceOf};
-ghost use Rattle.kernel.specs.Answer.{noKernel, kernelAnswer, magnitudeOf};
+ghost use Rattle.kernel.specs.Existence.{freeFits};
+ghost use Rattle.kernel.specs.Answer.{noKernel, kernelAnswer, freeAnswer, magnitudeOf, kernelAtAnswer};
 use limits::ErrorCode;
 use limits::Outcome;
 
@@ -36,6 +37,12 @@ pub struct Kernel {
 pub struct KernelAnswer {
     pub outcome: Outcome,
     pub kernel: Kernel,
+}
+
+// The free number of a choice, as the service's record holds it; 0 beside a refusal.
+pub struct FreeAnswer {
+    pub outcome: Outcome,
+    pub free: u32,
 }
 
 // A signed number taken apart.
@@ -98,6 +105,13 @@ fn above(a: u64, b: u64) -> u64
     ensures { λ r. ⌜ r ≡ a - b ⌝ }
 {
     if a < b { 0 } else { a - b }
+}
+
+// M of a step count.
+fn units(steps: u32) -> u64
+    ensures { λ r. ⌜ r ≡ unitsOf steps ⌝ }
+{
+    UNITS_PER_SQUARE_PIXEL * (steps as u64)
 }
 
 // The larger of |xy| and xx + yy - M: the smallest free number that leaves no weight negative.
@@ -165,43 +179,51 @@ fn kernel_with(xx: u64, xy: Magnitude, yy: u64, f: u64, m: u64) -> Kernel
     symmetric(f + c, down, f - c, along, centre, 4 * m)
 }
 
-// The kernel of a covariance whose signs are off, for a step count in range.
-fn kernel_from(
-    choice: Choice,
-    xx: Magnitude,
-    xy: Magnitude,
-    yy: Magnitude,
-    steps: u32,
-) -> KernelAnswer
+fn no_free(code: ErrorCode) -> FreeAnswer
+    ensures { λ r. ⌜ r ≡ record { outcome = Outcome.Refused code; free = 0 } ⌝ }
+{
+    FreeAnswer {
+        outcome: Outcome::Refused(code),
+        free: 0,
+    }
+}
+
+// The free number of a covariance whose signs are off, for a step count in range.
+fn free_from(choice: Choice, xx: Magnitude, xy: Magnitude, yy: Magnitude, steps: u32) -> FreeAnswer
     requires { ⌜ (xx .size ≤ 2147483648) × (xy .size ≤ 2147483648) × (yy .size ≤ 2147483648) × (stepsInRange steps ≡ true) ⌝ }
-    ensures { λ r. ⌜ ((x z y : ℤ) → xx ≡ magnitudeOf x → xy ≡ magnitudeOf z → yy ≡ magnitudeOf y → r ≡ kernelAnswer choice x z y steps) ⌝ }
+    ensures { λ r. ⌜ ((x z y : ℤ) → xx ≡ magnitudeOf x → xy ≡ magnitudeOf z → yy ≡ magnitudeOf y → r ≡ freeAnswer choice x z y steps) ⌝ }
 {
     if xx.negative {
-        return refused(ErrorCode::NoKernel);
+        return no_free(ErrorCode::NoKernel);
     }
     if yy.negative {
-        return refused(ErrorCode::NoKernel);
+        return no_free(ErrorCode::NoKernel);
     }
     let a = xx.size;
     let b = yy.size;
-    let m = UNITS_PER_SQUARE_PIXEL * (steps as u64);
+    let m = units(steps);
     let smallest = smallest_free_number(a, xy.size, b, m);
     if a < smallest {
-        return refused(ErrorCode::NoKernel);
+        return no_free(ErrorCode::NoKernel);
     }
     if b < smallest {
-        return refused(ErrorCode::NoKernel);
+        return no_free(ErrorCode::NoKernel);
     }
     let f = free_number_by(choice, smallest, a, b, m);
-    made(kernel_with(a, xy, b, f, m))
+    let outcome = Outcome::Accepted;
+    FreeAnswer {
+        outcome,
+        free: f as u32,
+    }
 }
 
-// The kernel of a covariance and a step count, by a choice, or refusal 5 or 11.
-pub fn kernel_by(choice: Choice, xx: i32, xy: i32, yy: i32, steps: u32) -> KernelAnswer
-    ensures { λ r. ⌜ r ≡ kernelAnswer choice xx xy yy steps ⌝ }
+// The free number of a covariance and a step count, by a choice, or refusal 5 or 11: what a record holds of the kernel that the
+// choice gives.
+pub fn free_by(choice: Choice, xx: i32, xy: i32, yy: i32, steps: u32) -> FreeAnswer
+    ensures { λ r. ⌜ r ≡ freeAnswer choice xx xy yy steps ⌝ }
 {
     if limits::steps_in_range(steps) {
-        return kernel_from(
+        return free_from(
             choice,
             size_and_sign(xx),
             size_and_sign(xy),
@@ -209,7 +231,70 @@ pub fn kernel_by(choice: Choice, xx: i32, xy: i32, yy: i32, steps: u32) -> Kerne
             steps,
         );
     }
-    refused(ErrorCode::StepsOutOfRange)
+    no_free(ErrorCode::StepsOutOfRange)
+}
+
+// Whether a free number leaves no weight negative, of a covariance whose signs are off.
+fn fits_from(xx: Magnitude, xy: Magnitude, yy: Magnitude, f: u64, m: u64) -> bool
+    requires { ⌜ (xx .size ≤ 2147483648) × (xy .size ≤ 2147483648) × (yy .size ≤ 2147483648) ⌝ }
+    ensures { λ r. ⌜ ((x z y : ℤ) → xx ≡ magnitudeOf x → xy ≡ magnitudeOf z → yy ≡ magnitudeOf y → r ≡ freeFits x z y f m) ⌝ }
+{
+    if limits::both(!xx.negative, !yy.negative) {
+        let low = smallest_free_number(xx.size, xy.size, yy.size, m);
+        let high = smaller(xx.size, yy.size);
+        return limits::both(low <= f, f <= high);
+    }
+    false
+}
+
+// Whether the steps are in range and a free number lies between the two bounds. A tick asks it of each job held, so no kernel is
+// made and nothing divided.
+pub fn free_fits(xx: i32, xy: i32, yy: i32, free: u32, steps: u32) -> bool
+    ensures { λ r. ⌜ r ≡ (stepsInRange steps && freeFits xx xy yy free (unitsOf steps)) ⌝ }
+{
+    if limits::steps_in_range(steps) {
+        let x = size_and_sign(xx);
+        let z = size_and_sign(xy);
+        let y = size_and_sign(yy);
+        return fits_from(x, z, y, free as u64, units(steps));
+    }
+    false
+}
+
+// The kernel with any free number between the bounds.
+fn kernel_of(xx: i32, xy: i32, yy: i32, free: u32, steps: u32) -> Kernel
+    requires { ⌜ (stepsInRange steps ≡ true) × (freeFits xx xy yy free (unitsOf steps) ≡ true) ⌝ }
+    ensures { λ r. ⌜ r ≡ kernelWith xx xy yy (pos free) steps ⌝ }
+{
+    let x = size_and_sign(xx);
+    let z = size_and_sign(xy);
+    let y = size_and_sign(yy);
+    kernel_with(x.size, z, y.size, free as u64, units(steps))
+}
+
+// The kernel with any free number between its bounds, as the service's record holds it; or refusal 5, or 11 where it lies outside.
+pub fn kernel_at(xx: i32, xy: i32, yy: i32, free: u32, steps: u32) -> KernelAnswer
+    ensures { λ r. ⌜ r ≡ kernelAtAnswer xx xy yy free steps ⌝ }
+{
+    if !limits::steps_in_range(steps) {
+        return refused(ErrorCode::StepsOutOfRange);
+    }
+    if free_fits(xx, xy, yy, free, steps) {
+        return made(kernel_of(xx, xy, yy, free, steps));
+    }
+    refused(ErrorCode::NoKernel)
+}
+
+// The kernel of a covariance and a step count, by a choice, or refusal 5 or 11: the kernel with the free number of the choice.
+pub fn kernel_by(choice: Choice, xx: i32, xy: i32, yy: i32, steps: u32) -> KernelAnswer
+    ensures { λ r. ⌜ r ≡ kernelAnswer choice xx xy yy steps ⌝ }
+{
+    let answer = free_by(choice, xx, xy, yy, steps);
+    let outcome = answer.outcome;
+    match outcome {
+        Outcome::Accepted => made(kernel_of(xx, xy, yy, answer.free, steps)),
+        Outcome::Refused(code) => refused(code),
+    }
 }
 
 // The choice that a number names: 1 is smallest, and every other number the binomial one, so that none is refused.

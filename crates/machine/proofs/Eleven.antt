@@ -119,17 +119,17 @@ unless-refused (O.Refused other) n code = (λ e. cc, λ e. cc)
 pub eleven-exactly : (rules : Rules) → Workable rules → ElevenExactly rules
 eleven-exactly rules workable =
     record {
-      called = λ r store shape k w h pixels. (
+      called = λ r store choice shape k w h pixels. (
           let o = submitChecks rules r store shape k w h pixels in
-          let a = submit-answers rules workable r store shape k w h pixels in
+          let a = submit-answers rules workable r store choice shape k w h pixels in
           let u = unless-refused o (r .last + 1) NoKernel in
           let c = checks-eleven shape k w h pixels rules r store in
           (λ e. c .0 (u .0 (sym a ∙ e)), λ e. a ∙ u .1 (c .1 e))
           );
-      listed = λ store long calls shape k w h pixels. (
-          let p = after (opened rules store) calls in
+      listed = λ store long entries choice shape k w h pixels. (
+          let p = after (opened rules store) entries in
           let es = p .history in
-          let a = demand-3-by rules workable store long calls .submit-answer shape k w h pixels in
+          let a = demand-3-by rules workable store long entries .submit-answer choice shape k w h pixels in
           let u = unless-refused (submitOutcome (p .rules) es shape k w h pixels) (jobCount es + 1) NoKernel in
           let c = outcome-eleven shape k w h pixels (p .rules) es in
           (λ e. c .0 (u .0 (sym a ∙ e)), λ e. a ∙ u .1 (c .1 e))

@@ -105,7 +105,7 @@ module _ (p : Place) (v : Invariant p) where
   module _ (c : Call) (n i : ℕ) (lent : List ℕ) (ending : Ending c n) (at : i < size p) (s : Sits (p .rules) (p .history) (p .store) i n (slotAt (p .service) i))
       (result : callOf (p .rules) (p .service) (p .store) c ≡ record { answer = Job n; service = emptied (p .service) i; store = p .store; lent = lent }) where
     abbrev event : Event
-    event = record { call = c; answer = Job n; lent = lent }
+    event = record { rules = p .rules; call = c; answer = Job n; lent = lent }
 
     number : slotAt (p .service) i .number ≡ n
     number = ap (λ (s : Slot). s .number) (s .is)

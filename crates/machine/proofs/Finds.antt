@@ -12,6 +12,7 @@ use Rattle.limits.specs.declared.Outcome.{Outcome}
 use Rattle.limits.specs.declared.Outcome.the-variants.{Accepted, Refused}
 use Rattle.limits.specs.declared.ErrorCode.the-variants.{RecordOutOfOrder, NoSuchJob}
 use Rattle.limits.proofs.Checks.{all-hold}
+use Rattle.kernel.specs.declared.Choice.{Choice}
 use Rattle.covariance.specs.declared.Shape.{Shape}
 use Rattle.machine.specs.declared.Service.{Service}
 use Rattle.machine.specs.declared.Found.{Found}
@@ -60,13 +61,13 @@ module _ (rules : Rules) (workable : Workable rules) (r : Service) (store : List
       (all-hold ((inOrder rules r otherwise RecordOutOfOrder) ∷ (isFound (placeOf rules r n) otherwise NoSuchJob) ∷ []) e .1 .0)
 
   -- ---- what each answers
-  pub submit-answers : (shape : Shape) (k w h : ℕ) (pixels : List ℕ)
-      → submitOf rules r store shape k w h pixels .answer ≡ numberUnless (submitChecks rules r store shape k w h pixels) (r .last + 1)
+  pub submit-answers : (choice : Choice) (shape : Shape) (k w h : ℕ) (pixels : List ℕ)
+      → submitOf rules r store choice shape k w h pixels .answer ≡ numberUnless (submitChecks rules r store shape k w h pixels) (r .last + 1)
   unfolding submitOf
-  submit-answers shape k w h pixels = go (submitChecks rules r store shape k w h pixels) (submit-finds shape k w h pixels)
+  submit-answers choice shape k w h pixels = go (submitChecks rules r store shape k w h pixels) (submit-finds shape k w h pixels)
     where
       go : (o : Outcome) → (o ≡ Accepted → (i : ℕ) × (emptyPlace rules r ≡ At i))
-          → unlessRefused o r store pixels (submitAt rules r store shape k w h pixels (emptyPlace rules r)) .answer
+          → unlessRefused o r store pixels (submitAt rules r store choice shape k w h pixels (emptyPlace rules r)) .answer
           ≡ numberUnless o (r .last + 1)
       go Accepted f = rw (f refl .1)
       go (Refused code) f = refl

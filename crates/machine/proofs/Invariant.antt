@@ -2,35 +2,42 @@
 -- own kernel stands in the slot's buffer; each held job sits in one slot. It is said job by job and for any rules, so that it carries
 -- over a change of the record and of the rules. Assumes nothing.
 use mathlib.Core.Path.{_≡_, refl, sym, _∙_, ap}
-use mathlib.Core.Bool.{Bool, true, false, not, true≢false}
+use mathlib.Core.Bool.{Bool, true, false, not, cond, true≢false}
 use mathlib.Core.Logic.{_⊎_, inl, inr, ⊎-elim}
 use mathlib.Core.List.{List, _∷_}
 use Prim.Native.Nat.{ℕ, zero, suc, _+_, _*_, _≤_, _<_}
 use native.Mathlib.Nat.{le-trans}
 use native.Mathlib.Omega.{arith}
-use borrow.Author.Tests.{lt-ltb, le-leb, eq-eqb, ne-eqb, eqb-true, eqb-false, leb-true}
+use borrow.Author.Tests.{le-leb, eq-eqb, ne-eqb, eqb-true, eqb-false, leb-true}
 use lib.Dec.{eqb, leb}
 use lib.ListN.{length, getD, set, length-set}
 use lib.Seq.{getD-set-same, getD-set-other}
 use Rattle.limits.specs.Limits.{stepsInRange, sidesInRange, fitsBuffer, bufferPixels}
-use Rattle.kernel.specs.Molecule.{unitsOf}
-use Rattle.kernel.specs.Existence.{kernelExists}
+use lib.IntN.{ℤ, pos}
+use Rattle.kernel.specs.declared.Choice.{Choice}
+use Rattle.kernel.specs.declared.Choice.the-variants.{Smallest}
+use Rattle.kernel.specs.Molecule.{unitsOf, kernelOf, kernelWith}
+use Rattle.kernel.specs.Existence.{kernelExists, freeFits}
+use Rattle.kernel.specs.Choice.{freeBy, kernelBy}
+use Rattle.kernel.proofs.Bounds.{free-kernel, choice-fits}
 use Rattle.covariance.specs.Shapes.{variancesFine, directionFine, covarianceXX, covarianceXY, covarianceYY}
 use Rattle.machine.specs.declared.Slot.{Slot}
 use Rattle.machine.specs.Rules.{Rules}
 use Rattle.machine.specs.Slots.{emptySlot, slotAt, isEmpty, hasNumber, countOf}
 use Rattle.machine.specs.Store.{storeLength, Workable, part, bufferAfter}
-use Rattle.machine.specs.Order.{allZero, filledFine, slotFine, inOrder, usable}
-use Rattle.machine.specs.Calls.{Call}
-use Rattle.machine.specs.History.{Event, Place, next, eventOf, Submitted, aloneAfter, jobOf, held, ticksOf, stepsLeft, numbers, jobCount, heldCount}
+use Rattle.machine.specs.Order.{freeFine, allZero, filledFine, slotFine, inOrder, usable}
+use Rattle.machine.specs.Calls.{Call, choiceBy, freeHeld, kernelOfSlot}
+use Rattle.machine.specs.History.{Event, Place, next, eventOf, Submitted, kernelOfJob, aloneAfter, jobOf, held, ticksOf, stepsLeft, numbers, jobCount, heldCount}
 use Rattle.machine.specs.Demand.{countdown}
 use Rattle.machine.proofs.Search.{one, count-set}
-use Rattle.machine.proofs.Counts.{every-made}
+use Rattle.machine.proofs.Orderly.{order-made}
 use Rattle.machine.proofs.Rules.{block, within-block, from-block}
 use Rattle.machine.proofs.Words.{Untouched, same-held, same-job, same-ticks}
 
 -- what the checks of a submit leave of a job
 pub record JobFine (j : Submitted) : Type 0 where
+  pub workable : Workable (j .rules)
+  pub choice : choiceBy (j .rules) (j .choice) ≡ j .choice
   pub variances : variancesFine (j .shape) ≡ true
   pub direction : directionFine (j .shape) ≡ true
   pub steps : stepsInRange (j .steps) ≡ true
@@ -39,9 +46,9 @@ pub record JobFine (j : Submitted) : Type 0 where
   pub kernel : kernelExists (covarianceXX (j .shape)) (covarianceXY (j .shape)) (covarianceYY (j .shape)) (unitsOf (j .steps)) ≡ true
   pub full : length (j .picture) ≡ j .width * j .height
 
--- the slot of a job with so many steps left
-abbrev pub slotOf : ℕ → Submitted → ℕ → Slot
-slotOf n j left =
+-- the slot of a job with so many steps left, by the rules of a place: those of its submit, or later ones
+abbrev pub slotOf : Rules → ℕ → Submitted → ℕ → Slot
+slotOf rules n j left =
     record {
       number = n;
       xx = covarianceXX (j .shape);
@@ -51,14 +58,48 @@ slotOf n j left =
       left = left;
       width = j .width;
       height = j .height;
+      free = freeHeld rules (j .choice) (j .shape) (j .steps);
     }
+
+-- ---- what a slot holds of a choice, by rules with one and by rules without
+pub choice-twice : (rules : Rules) (choice : Choice) → choiceBy rules (choiceBy rules choice) ≡ choiceBy rules choice
+choice-twice rules choice = go (rules .holdsChoice)
+  where
+    go : (t : Bool) → cond t (cond t choice Smallest) Smallest ≡ cond t choice Smallest
+    go true = refl
+    go false = refl
+
+module _ (choice : Choice) (xx xy yy : ℤ) (k : ℕ) where
+  pub free-of-choice : (t : Bool) → cond t (freeBy (cond t choice Smallest) xx xy yy k) 0 ≡ cond t (freeBy choice xx xy yy k) 0
+  free-of-choice true = refl
+  free-of-choice false = refl
+
+  module _ (exists : kernelExists xx xy yy (unitsOf k) ≡ true) where
+    held-fits : (t : Bool) → cond t (freeFits xx xy yy (cond t (freeBy choice xx xy yy k) 0) (unitsOf k)) true ≡ true
+    held-fits true = choice-fits choice xx xy yy k exists
+    held-fits false = refl
+
+    held-kernel : (t : Bool) → cond t choice Smallest ≡ choice
+        → cond t (kernelWith xx xy yy (pos (cond t (freeBy choice xx xy yy k) 0)) k) (kernelOf xx xy yy k) ≡ kernelBy choice xx xy yy k
+    held-kernel true c = free-kernel choice xx xy yy k exists
+    held-kernel false c = ap (λ x. kernelBy x xx xy yy k) c
+
+module _ (rules : Rules) (n : ℕ) (j : Submitted) (left : ℕ) (fine : JobFine j) where
+  -- its f lies between the bounds
+  pub free-fine : freeFine rules (slotOf rules n j left) ≡ true
+  free-fine = held-fits (j .choice) (covarianceXX (j .shape)) (covarianceXY (j .shape)) (covarianceYY (j .shape)) (j .steps) (fine .kernel) (rules .holdsChoice)
+
+  -- and gives the job's own kernel, where the rules allow its choice
+  pub own-kernel : choiceBy rules (j .choice) ≡ j .choice → kernelOfSlot rules (slotOf rules n j left) ≡ kernelOfJob j
+  own-kernel c = held-kernel (j .choice) (covarianceXX (j .shape)) (covarianceXY (j .shape)) (covarianceYY (j .shape)) (j .steps) (fine .kernel) (rules .holdsChoice) c
 
 -- slot i sits with the job of this number
 pub record Sits (rules : Rules) (es : List Event) (store : List ℕ) (i n : ℕ) (s : Slot) : Type 0 where
   pub positive : 0 < n
   pub known : n ≤ jobCount es
   pub is-held : held es n ≡ true
-  pub is : s ≡ slotOf n (jobOf es n) (stepsLeft es n)
+  pub is : s ≡ slotOf rules n (jobOf es n) (stepsLeft es n)
+  pub chosen : choiceBy rules (jobOf es n .choice) ≡ jobOf es n .choice
   pub few : ticksOf es n ≤ jobOf es n .steps
   pub fine : JobFine (jobOf es n)
   pub image : part (bufferAfter rules i (ticksOf es n)) (jobOf es n .width * jobOf es n .height) store ≡ aloneAfter (jobOf es n) (ticksOf es n)
@@ -121,22 +162,25 @@ module _ (p : Place) (v : Invariant p) where
   unfolding slotFine allZero filledFine
   fine-slot i h = go (v .taken i h)
     where
+      either : (t : Bool) → cond t true true ≡ true
+      either true = refl
+      either false = refl
+
       go : Taken (p .rules) (p .history) (p .store) i (slotAt (p .service) i) → slotFine (p .rules) (p .service) (slotAt (p .service) i) ≡ true
-      go (inl e) = rw e
+      go (inl e) = rw e (either (p .rules .holdsChoice))
       go (inr w) =
           let n = w .0 in
           let s = w .1 in
           let f = s .fine in
+          let b = free-fine (p .rules) n (jobOf (p .history) n) (stepsLeft (p .history) n) f in
           let c = alone i n h s in
           let nonempty : eqb n 0 ≡ false = ne-eqb n 0 (λ x. omega (arith, s .positive)) in
           let l : leb n (p .service .last) ≡ true = le-leb n (p .service .last) (rw (v .last) (s .known)) in
           let g : leb (stepsLeft (p .history) n) (jobOf (p .history) n .steps) ≡ true = le-leb (stepsLeft (p .history) n) (jobOf (p .history) n .steps) (omega arith) in
-          rw (s .is, nonempty, f .steps, f .sides, f .fits, f .kernel, l, g, c)
+          rw (s .is, nonempty, f .steps, f .sides, f .fits, f .kernel, b, l, g, c)
 
   pub in-order : inOrder (p .rules) (p .service) ≡ true
-  unfolding inOrder
-  in-order =
-      rw (every-made (λ k. slotFine (p .rules) (p .service) (slotAt (p .service) k)) (size p) fine-slot, lt-ltb (p .service .filled) (size p) (v .filled), lt-ltb (p .service .served) (size p) (v .served))
+  in-order = order-made (p .rules) (p .service) (v .filled) (v .served) fine-slot
 
   pub is-usable : usable (p .rules) (p .service) (p .store) ≡ true
   unfolding usable
@@ -176,6 +220,7 @@ sits-still rules workable e es store store′ j n s t grows apart x =
       known = le-trans (x .known) grows;
       is-held = hh ∙ x .is-held;
       is = rw (jj, kk) (x .is);
+      chosen = rw jj (x .chosen);
       few = rw (jj, kk) (x .few);
       fine = rw jj (x .fine);
       image =

@@ -4,6 +4,8 @@ pub mod Parts
 pub mod Rules
 pub mod Words
 pub mod Invariant
+pub mod ChangeOver
+pub mod Changes
 pub mod Quiet
 pub mod Counts
 pub mod Served
@@ -21,3 +23,5 @@ pub mod Eleven
 pub mod Spots
 pub mod Lines
 pub mod Worked
+pub mod Kept
+pub mod Commutes

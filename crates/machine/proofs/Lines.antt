@@ -5,14 +5,18 @@ use mathlib.Core.List.{List, [], _∷_}
 use Prim.Native.Nat.{ℕ}
 use lib.ListN.{length}
 use lib.IntN.{ℤ, pos}
+use Rattle.limits.specs.Errors.{outcomeNumber}
+use Rattle.kernel.specs.declared.Choice.{Choice}
+use Rattle.kernel.specs.Choice.{defaultChoice}
 use Rattle.covariance.specs.declared.Shape.{Shape}
 use Rattle.machine.specs.declared.Slot.{Slot}
 use Rattle.machine.specs.declared.Service.{Service}
 use Rattle.machine.specs.Answers.{answerNumber, answerValues, countNumber, countValues}
-use Rattle.machine.specs.Rules.{baseRules}
+use Rattle.machine.specs.Rules.{Rules, baseRules}
 use Rattle.machine.specs.Store.{part}
 use Rattle.machine.specs.Calls.{Call, submit, tick, collect, withdraw, freeCountOf}
-use Rattle.machine.specs.History.{Place, next, after, since, Submitted, jobOf, held, ticksOf, stepsLeft, finished, numbers, heldCount, withdrawnIn, ticksIn}
+use Rattle.machine.specs.Change.{changeChecks}
+use Rattle.machine.specs.History.{Place, Entry, changing, next, onward, after, since, Submitted, jobOf, held, ticksOf, stepsLeft, finished, numbers, heldCount, withdrawnIn, ticksIn}
 use Rattle.machine.specs.Demand.{answerAt, lentAfter, loneCalls, allAccepted}
 
 -- ---- a line of a worked list
@@ -33,11 +37,15 @@ pub data Line : Type 0 where
   given : List ℕ → ℕ → Line
   -- whether each call so far was accepted
   accepted : Bool → Line
-  -- for a job and calls that could follow here: the ticks among them, whether the job is finished after them, and whether it was
+  -- for a job and what could follow here: the ticks among them, whether the job is finished after them, and whether it was
   -- withdrawn by one of them
-  waits : ℕ → List Call → ℕ → Bool → Bool → Line
-  -- the calls before the collect of a service opened for a job only
-  lone : Submitted → List Call → Line
+  waits : ℕ → List Entry → ℕ → Bool → Bool → Line
+  -- what stands before the collect of a service opened for a job only
+  lone : Submitted → List Entry → Line
+  -- the change-over, and the number of its refusal
+  changes : ℕ → Line
+  -- the rules here hold a choice, or not yet
+  chooses : Bool → Line
 
 -- a list from a place on
 pub record Worked : Type 0 where
@@ -61,13 +69,19 @@ computed p (accepted a ∷ rest) = accepted (allAccepted (p .history)) ∷ compu
 computed p (waits n calls t f w ∷ rest) =
     waits n calls (ticksIn calls) (finished (after p calls .history) n) (withdrawnIn (since p calls) n) ∷ computed p rest
 computed p (lone j calls ∷ rest) = lone j (loneCalls j) ∷ computed p rest
+computed p (changes number ∷ rest) = changes (outcomeNumber (changeChecks (p .rules) (p .service))) ∷ computed (onward p changing) rest
+computed p (chooses t ∷ rest) = chooses (p .rules .holdsChoice) ∷ computed p rest
 
 -- ---- how a line is written. "a refusal answers its number alone", and a lent picture keeps its contents; 0 is no refusal
+abbrev pub submits-by : Choice → Shape → ℕ → ℕ → ℕ → List ℕ → ℕ → Line
+submits-by choice shape k w h pixels n = called (submit choice shape k w h pixels) 0 (n ∷ []) pixels
+
+-- a submit that names no choice: by rules without one it has the smallest
 abbrev pub submits : Shape → ℕ → ℕ → ℕ → List ℕ → ℕ → Line
-submits shape k w h pixels n = called (submit shape k w h pixels) 0 (n ∷ []) pixels
+submits shape k w h pixels n = submits-by defaultChoice shape k w h pixels n
 
 abbrev pub submit-refused : Shape → ℕ → ℕ → ℕ → List ℕ → ℕ → Line
-submit-refused shape k w h pixels number = called (submit shape k w h pixels) number [] pixels
+submit-refused shape k w h pixels number = called (submit defaultChoice shape k w h pixels) number [] pixels
 
 abbrev pub ticks : ℕ → Line
 ticks n = called tick 0 (n ∷ []) []
@@ -102,6 +116,22 @@ seat number xx xy yy steps left w h =
       left = left;
       width = w;
       height = h;
+      free = 0;
+    }
+
+-- "Each seat gains f"
+abbrev pub seat-with : ℕ → Slot → Slot
+seat-with f s =
+    record {
+      number = s .number;
+      xx = s .xx;
+      xy = s .xy;
+      yy = s .yy;
+      steps = s .steps;
+      left = s .left;
+      width = s .width;
+      height = s .height;
+      free = f;
     }
 
 abbrev pub none : Slot
@@ -111,5 +141,8 @@ none = seat 0 (pos 0) (pos 0) (pos 0) 0 0 0 0
 abbrev pub keeps : List Slot → ℕ → ℕ → ℕ → Service
 keeps slots last filled served = record { slots = slots; last = last; filled = filled; served = served }
 
+abbrev pub placed-by : Rules → Service → List ℕ → Place
+placed-by rules r store = record { rules = rules; service = r; store = store; history = [] }
+
 abbrev pub placed : Service → List ℕ → Place
-placed r store = record { rules = baseRules; service = r; store = store; history = [] }
+placed r store = placed-by baseRules r store

@@ -10,11 +10,12 @@ use borrow.Author.Tests.{eq-eqb, lt-ltb}
 use lib.Dec.{eqb}
 use lib.ListN.{length, replicate}
 use Rattle.limits.specs.declared.Outcome.the-variants as O
+use Rattle.kernel.specs.declared.Choice.{Choice}
 use Rattle.machine.specs.declared.Answer.the-variants.{Job}
 use Rattle.machine.specs.Rules.{Rules}
 use Rattle.machine.specs.Store.{storeLength, Workable}
 use Rattle.machine.specs.Calls.{Call, submit, tick, collect}
-use Rattle.machine.specs.History.{Place, opened, next, eventOf, after, accepts, answersNumber, Submitted, aloneAfter, jobOf, held, ticksOf, stepsLeft, givenBy, numbers, howMany, jobCount}
+use Rattle.machine.specs.History.{Place, calling, opened, next, eventOf, after, accepts, answersNumber, Submitted, aloneAfter, jobOf, held, ticksOf, stepsLeft, givenBy, numbers, howMany, jobCount}
 use Rattle.machine.specs.Demand.{submitOutcome, answerAt, lentAfter, loneCalls, allAccepted}
 use Rattle.machine.proofs.Words.{kept-held, kept-job, served-ticks, started-held, started-job, started-ticks}
 use Rattle.machine.proofs.Invariant.{Invariant, JobFine}
@@ -32,9 +33,15 @@ record Lone (p : Place) (j : Submitted) (t : ℕ) : Type 0 where
   ticks : ticksOf (p .history) 1 ≡ t
   accepted : allAccepted (p .history) ≡ true
 
-module _ (rules : Rules) (workable : Workable rules) (j : Submitted) (fine : JobFine j) where
+module _ (j : Submitted) (fine : JobFine j) where
+  abbrev rules : Rules
+  rules = j .rules
+
+  abbrev workable : Workable rules
+  workable = fine .workable
+
   abbrev first : Call
-  first = submit (j .shape) (j .steps) (j .width) (j .height) (j .picture)
+  first = submit (j .choice) (j .shape) (j .steps) (j .width) (j .height) (j .picture)
 
   outcome : submitOutcome rules [] (j .shape) (j .steps) (j .width) (j .height) (j .picture) ≡ O.Accepted
   unfolding numbers howMany
@@ -44,7 +51,7 @@ module _ (rules : Rules) (workable : Workable rules) (j : Submitted) (fine : Job
     answered : answerAt (opened rules store) first ≡ Job 1
     unfolding numbers
     answered =
-        submits (opened rules store) (opened-invariant rules workable store long) (j .shape) (j .steps) (j .width) (j .height) (j .picture) .answered
+        submits (opened rules store) (opened-invariant rules workable store long) (j .choice) (j .shape) (j .steps) (j .width) (j .height) (j .picture) .answered
         ∙ rw outcome
 
     starts-it : answersNumber (answerAt (opened rules store) first) 1 ≡ true
@@ -58,13 +65,26 @@ module _ (rules : Rules) (workable : Workable rules) (j : Submitted) (fine : Job
     unfolding allAccepted
     all-accepted = ap (λ a. accepts a && true) answered
 
+    -- the job as it is submitted there, by whichever choice
+    abbrev with-own : Choice → Submitted
+    with-own choice =
+        record {
+          rules = j .rules;
+          choice = choice;
+          shape = j .shape;
+          steps = j .steps;
+          width = j .width;
+          height = j .height;
+          picture = j .picture;
+        }
+
     start : Lone (next (opened rules store) first) j 0
     start =
         record {
           holds = next-invariant (opened rules store) (opened-invariant rules workable store long) first;
           jobs = ap length one-number;
           is-held = started-held (eventOf (opened rules store) first) [] 1 starts-it;
-          job = started-job (eventOf (opened rules store) first) [] 1 starts-it;
+          job = started-job (eventOf (opened rules store) first) [] 1 starts-it ∙ ap with-own (fine .choice);
           ticks = started-ticks (eventOf (opened rules store) first) [] 1 starts-it;
           accepted = all-accepted;
         }
@@ -101,7 +121,7 @@ module _ (rules : Rules) (workable : Workable rules) (j : Submitted) (fine : Job
           accepted = still-accepted;
         }
 
-  all-ticks : (m : ℕ) (p : Place) (t : ℕ) → Lone p j t → t + m ≤ j .steps → Lone (after p (replicate m tick)) j (t + m)
+  all-ticks : (m : ℕ) (p : Place) (t : ℕ) → Lone p j t → t + m ≤ j .steps → Lone (after p (replicate m (calling tick))) j (t + m)
   unfolding after
   all-ticks zero p t l h = rw (add-zero t) l
   all-ticks (suc m) p t l h = rw (same t m) (all-ticks m (next p tick) (t + 1) (one-more p t l (omega arith)) (omega arith))

@@ -1,6 +1,6 @@
 -- The calls in REFERENCE's numbers, by cases of what their checks come to, by any rules; and demand 3 in these numbers, from its
 -- fields alone, by REFERENCE's rules, since 8, 2 and 16 are theirs. Assumes nothing.
-use mathlib.Core.Path.{_≡_, refl, sym, _∙_, ap, subst}
+use mathlib.Core.Path.{_≡_, refl, sym, _∙_, ap, ap₂, subst}
 use mathlib.Core.Logic.{_⊎_, inl, inr, ⊎-elim}
 use mathlib.Core.List.{List, [], _∷_}
 use Prim.Native.Nat.{ℕ, _+_, _-_, _*_, _≤_}
@@ -15,14 +15,14 @@ use Rattle.machine.specs.declared.FreeCount.the-variants.{Buffers}
 use Rattle.machine.specs.declared.Found.{Found}
 use Rattle.machine.specs.declared.Found.the-variants.{At, Nothing}
 use Rattle.machine.specs.Answers.{answerNumber, answerValues, countNumber, countValues}
-use Rattle.machine.specs.Rules.{Rules, baseRules}
-use Rattle.machine.specs.Store.{bufferCount, Workable}
+use Rattle.machine.specs.Rules.{Rules, baseRules, choiceRules}
+use Rattle.machine.specs.Store.{Workable}
 use Rattle.machine.specs.Calls.{freeBuffers, submitChecks, tickChecks, servedPlace, tickOf, collectChecks, withdrawChecks, countChecks, freeCountOf}
 use Rattle.machine.specs.History.{Place, opened, after, stepsLeft, jobCount, heldCount}
-use Rattle.machine.specs.Demand.{numberUnless, submitOutcome, submitAnswer, withdrawOutcome, collectOutcome, AtPlace}
+use Rattle.machine.specs.Demand.{numberUnless, submitOutcome, withdrawOutcome, collectOutcome, AtPlace, Opening, by-base, by-choice}
 use Rattle.machine.specs.Numbers.{valuesUnless, AnswerIs, tickValues, CallsInNumbers, InNumbers, Demand3InNumbers}
 use Rattle.machine.proofs.Finds.{submit-answers, collect-answers, withdraw-answers}
-use Rattle.machine.proofs.Lists.{after-rules}
+use Rattle.machine.proofs.Lists.{after-numbers}
 use Rattle.machine.proofs.Theorem.{demand-3}
 
 answers-as : (a : Answer) (o : Outcome) (n : ℕ) → a ≡ numberUnless o n → AnswerIs a o n
@@ -47,8 +47,8 @@ module _ (rules : Rules) (workable : Workable rules) (r : Service) (store : List
   pub calls-in-numbers : CallsInNumbers rules r store
   calls-in-numbers =
       record {
-        submits = λ shape k w h pixels.
-            answers-as _ (submitChecks rules r store shape k w h pixels) (r .last + 1) (submit-answers rules workable r store shape k w h pixels);
+        submits = λ choice shape k w h pixels.
+            answers-as _ (submitChecks rules r store shape k w h pixels) (r .last + 1) (submit-answers rules workable r store choice shape k w h pixels);
         ticks = tick-is (tickChecks rules r store) (servedPlace rules r) refl refl .0;
         ticked = tick-is (tickChecks rules r store) (servedPlace rules r) refl refl .1;
         collects = λ n lent. answers-as _ (collectChecks rules r store n lent) n (collect-answers rules workable r store n lent);
@@ -61,21 +61,18 @@ module _ (rules : Rules) (workable : Workable rules) (r : Service) (store : List
 some-value : (n : ℕ) → n ∷ [] ≡ [] → ⊥
 some-value n e = let z = ap length e in omega arith
 
-module _ (p : Place) (d : AtPlace p) (base : p .rules ≡ baseRules) where
-  free-is : freeCountOf baseRules (p .service) ≡ Buffers (16 - 2 * heldCount (p .history))
-  free-is =
-      subst (λ (x : Rules). freeCountOf x (p .service) ≡ Buffers (bufferCount x - x .buffersPerSlot * heldCount (p .history))) base
-      (d .free-buffers)
+module _ (p : Place) (d : AtPlace p) (slots : p .rules .slotCount ≡ 8) (buffers : p .rules .buffersPerSlot ≡ 2) where
+  free-is : freeCountOf (p .rules) (p .service) ≡ Buffers (16 - 2 * heldCount (p .history))
+  free-is = d .free-buffers ∙ ap₂ (λ s b. Buffers (s * b - b * heldCount (p .history))) slots buffers
 
   held-at-most : heldCount (p .history) ≤ 8
-  held-at-most = subst (λ (x : Rules). heldCount (p .history) ≤ x .slotCount) base (d .at-most-all-slots)
+  held-at-most = subst (λ n. heldCount (p .history) ≤ n) slots (d .at-most-all-slots)
 
   in-numbers : InNumbers p
   in-numbers =
       record {
-        submits = λ shape k w h pixels.
-            answers-as _ (submitOutcome baseRules (p .history) shape k w h pixels) (jobCount (p .history) + 1)
-            (d .submit-answer shape k w h pixels ∙ ap (λ (x : Rules). submitAnswer x (p .history) shape k w h pixels) base);
+        submits = λ choice shape k w h pixels.
+            answers-as _ (submitOutcome (p .rules) (p .history) shape k w h pixels) (jobCount (p .history) + 1) (d .submit-answer choice shape k w h pixels);
         collects = λ n lent. answers-as _ (collectOutcome (p .history) n lent) n (d .collect-answer n lent);
         withdraws = λ n. answers-as _ (withdrawOutcome (p .history) n) n (d .withdraw-answer n);
         ticks = ⊎-elim (λ e. ap answerNumber e) (λ w. ap answerNumber (w .1)) (d .tick-serves);
@@ -84,7 +81,7 @@ module _ (p : Place) (d : AtPlace p) (base : p .rules ≡ baseRules) where
           λ e. ⊎-elim (λ i. d .tick-idle .0 i) (λ w. absurd (some-value (w .0) (sym (ap answerValues (w .1)) ∙ e))) (d .tick-serves),
           λ f. ap answerValues (d .tick-idle .1 f),
         );
-        waits = λ n calls h t. d .wait n calls h (t ∙ ap (λ (x : Rules). x .slotCount * stepsLeft (p .history) n) (sym base));
+        waits = λ n entries h t. d .wait n entries h (t ∙ ap (λ s. s * stepsLeft (p .history) n) (sym slots));
         at-most-eight = held-at-most;
         counts = ap countNumber free-is;
         counted = (
@@ -94,6 +91,13 @@ module _ (p : Place) (d : AtPlace p) (base : p .rules ≡ baseRules) where
         );
       }
 
+-- both rules that a list opens by have these numbers, and the change-over keeps them
+opening-numbers : (rules : Rules) → Opening rules → (rules .slotCount ≡ 8) × (rules .buffersPerSlot ≡ 2)
+opening-numbers baseRules by-base = (refl, refl)
+opening-numbers choiceRules by-choice = (refl, refl)
+
 pub demand-3-in-numbers : Demand3InNumbers
-demand-3-in-numbers store long calls =
-    in-numbers (after (opened baseRules store) calls) (demand-3 store long calls) (after-rules calls (opened baseRules store))
+demand-3-in-numbers rules opening store long entries =
+    let w = after-numbers entries (opened rules store) in
+    let o = opening-numbers rules opening in
+    in-numbers (after (opened rules store) entries) (demand-3 rules opening store long entries) (w .0 ∙ o .0) (w .1 ∙ o .1)

@@ -4,7 +4,7 @@ use mathlib.Core.Path.{_≡_, refl}
 use mathlib.Core.Bool.{Bool, true, false, not, cond, _&&_}
 use Prim.Native.Nat.{ℕ, _<_}
 use native.Mathlib.Omega.{arith}
-use borrow.Author.Tests.{eqb-true, eqb-false, ne-eqb, ltb-true, leb-true, eq-eqb}
+use borrow.Author.Tests.{lt-ltb, eqb-true, eqb-false, ne-eqb, ltb-true, leb-true, eq-eqb}
 use lib.Dec.{eqb, ltb, leb}
 use Rattle.limits.proofs.Laws.{both-true}
 use Rattle.limits.specs.Limits.{stepsInRange, sidesInRange, fitsBuffer}
@@ -18,8 +18,8 @@ use Rattle.machine.specs.Slots.{slotAt, isEmpty, hasStepsLeft, hasNumber
 use Rattle.machine.specs.Store.{Workable}
 use Rattle.machine.specs.Calls.{emptyPlace, servedPlace, placeOf}
 use Rattle.machine.proofs.Search.{hit, found, distance, next-lt}
-use Rattle.machine.proofs.Counts.{some-empty, every-each}
-use Rattle.machine.specs.Order.{FilledSlot, isZero, allZero, filledFine, unshared, slotFine, inOrder}
+use Rattle.machine.proofs.Counts.{some-empty, every-each, every-made}
+use Rattle.machine.specs.Order.{FilledSlot, isZero, freeZero, freeFine, allZero, filledFine, unshared, slotFine, inOrder}
 
 module _ (rules : Rules) (r : Service) (ordered : inOrder rules r ≡ true) where
   parts : (everySlot (slotFine rules r) (r .slots) (rules .slotCount) ≡ true) × ((ltb (r .filled) (rules .slotCount) && ltb (r .served) (rules .slotCount)) ≡ true)
@@ -32,29 +32,32 @@ module _ (rules : Rules) (r : Service) (ordered : inOrder rules r ≡ true) wher
   pub served-lt : r .served < rules .slotCount
   served-lt = ltb-true (r .served) (rules .slotCount) (both-true (ltb (r .filled) (rules .slotCount)) (ltb (r .served) (rules .slotCount)) (parts .1) .1)
 
-  fine : (i : ℕ) → i < rules .slotCount → slotFine rules r (slotAt r i) ≡ true
-  fine i h = every-each (λ k. slotFine rules r (slotAt r k)) (rules .slotCount) i h (parts .0)
+  pub slot-fine : (i : ℕ) → i < rules .slotCount → slotFine rules r (slotAt r i) ≡ true
+  slot-fine i h = every-each (λ k. slotFine rules r (slotAt r k)) (rules .slotCount) i h (parts .0)
 
-  pub filled-slot : (i : ℕ) → i < rules .slotCount → (slotAt r i .number ≡ 0 → ⊥) → FilledSlot (r .last) (slotAt r i)
+  pub filled-slot : (i : ℕ) → i < rules .slotCount → (slotAt r i .number ≡ 0 → ⊥) → FilledSlot rules (r .last) (slotAt r i)
   unfolding slotFine filledFine
   filled-slot i h ne =
       let s = slotAt r i in
-      let e : (filledFine (r .last) s && unshared rules (r .slots) s) ≡ true = rw (ne-eqb (s .number) 0 ne) at (fine i h) in
+      let e : (filledFine rules (r .last) s && unshared rules (r .slots) s) ≡ true = rw (ne-eqb (s .number) 0 ne) at (slot-fine i h) in
       let steps = stepsInRange (s .steps) in
       let kernel = kernelExists (s .xx) (s .xy) (s .yy) (unitsOf (s .steps)) in
       let sides = sidesInRange (s .width) (s .height) in
       let fits = fitsBuffer (s .width) (s .height) in
       let number = leb (s .number) (r .last) in
       let left = leb (s .left) (s .steps) in
-      let all = both-true ((steps && kernel) && (sides && (fits && (number && left)))) (unshared rules (r .slots) s) e .0 in
-      let a = both-true (steps && kernel) (sides && (fits && (number && left))) all in
-      let b = both-true steps kernel (a .0) in
+      let free = freeFine rules s in
+      let all = both-true ((steps && (kernel && free)) && (sides && (fits && (number && left)))) (unshared rules (r .slots) s) e .0 in
+      let a = both-true (steps && (kernel && free)) (sides && (fits && (number && left))) all in
+      let b = both-true steps (kernel && free) (a .0) in
+      let k = both-true kernel free (b .1) in
       let c = both-true sides (fits && (number && left)) (a .1) in
       let d = both-true fits (number && left) (c .1) in
       let f = both-true number left (d .1) in
       record {
         steps = b .0;
-        kernel = b .1;
+        kernel = k .0;
+        free = k .1;
         sides = c .0;
         fits = d .0;
         number = leb-true (s .number) (r .last) (f .0);
@@ -66,14 +69,21 @@ module _ (rules : Rules) (r : Service) (ordered : inOrder rules r ≡ true) wher
   unfolding slotFine allZero
   left-filled i h l e =
       let s = slotAt r i in
-      let z : allZero s ≡ true = rw (eq-eqb (s .number) 0 e) at (fine i h) in
-      let a = both-true (isZero (s .xx)) (isZero (s .xy) && (isZero (s .yy) && (eqb (s .steps) 0 && (eqb (s .left) 0 && (eqb (s .width) 0 && eqb (s .height) 0))))) z in
-      let b = both-true (isZero (s .xy)) (isZero (s .yy) && (eqb (s .steps) 0 && (eqb (s .left) 0 && (eqb (s .width) 0 && eqb (s .height) 0)))) (a .1) in
-      let c = both-true (isZero (s .yy)) (eqb (s .steps) 0 && (eqb (s .left) 0 && (eqb (s .width) 0 && eqb (s .height) 0))) (b .1) in
-      let d = both-true (eqb (s .steps) 0) (eqb (s .left) 0 && (eqb (s .width) 0 && eqb (s .height) 0)) (c .1) in
-      let f = both-true (eqb (s .left) 0) (eqb (s .width) 0 && eqb (s .height) 0) (d .1) in
+      let z : allZero rules s ≡ true = rw (eq-eqb (s .number) 0 e) at (slot-fine i h) in
+      let a = both-true (isZero (s .xx)) (isZero (s .xy) && (isZero (s .yy) && (eqb (s .steps) 0 && (eqb (s .left) 0 && (eqb (s .width) 0 && (eqb (s .height) 0 && freeZero rules s)))))) z in
+      let b = both-true (isZero (s .xy)) (isZero (s .yy) && (eqb (s .steps) 0 && (eqb (s .left) 0 && (eqb (s .width) 0 && (eqb (s .height) 0 && freeZero rules s))))) (a .1) in
+      let c = both-true (isZero (s .yy)) (eqb (s .steps) 0 && (eqb (s .left) 0 && (eqb (s .width) 0 && (eqb (s .height) 0 && freeZero rules s)))) (b .1) in
+      let d = both-true (eqb (s .steps) 0) (eqb (s .left) 0 && (eqb (s .width) 0 && (eqb (s .height) 0 && freeZero rules s))) (c .1) in
+      let f = both-true (eqb (s .left) 0) (eqb (s .width) 0 && (eqb (s .height) 0 && freeZero rules s)) (d .1) in
       let g = eqb-true (s .left) 0 (f .0) in
       omega arith
+
+-- and a record whose slots and named slots pass is in order
+pub order-made : (rules : Rules) (r : Service) → r .filled < rules .slotCount → r .served < rules .slotCount
+    → ((i : ℕ) → i < rules .slotCount → slotFine rules r (slotAt r i) ≡ true) → inOrder rules r ≡ true
+unfolding inOrder
+order-made rules r f s fine =
+    rw (every-made (λ k. slotFine rules r (slotAt r k)) (rules .slotCount) fine, lt-ltb (r .filled) (rules .slotCount) f, lt-ltb (r .served) (rules .slotCount) s)
 
 -- ---- what the calls' searches find: a slot, and one that passes
 module _ (rules : Rules) (workable : Workable rules) (r : Service) where

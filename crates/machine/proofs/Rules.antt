@@ -21,7 +21,7 @@ pub base-workable : Workable baseRules
 base-workable = workable-when baseRules (omega arith) (omega arith) (omega arith)
 
 pub current-workable : Workable currentRules
-current-workable = base-workable
+current-workable = workable-when currentRules (omega arith) (omega arith) (omega arith)
 
 -- the buffers of a slot lie in one block of the store
 abbrev pub block : Rules → ℕ

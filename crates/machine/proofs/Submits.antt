@@ -17,13 +17,15 @@ use Rattle.limits.specs.declared.Outcome.{Outcome}
 use Rattle.limits.specs.declared.Outcome.the-variants as O
 use Rattle.limits.specs.declared.ErrorCode.{ErrorCode}
 use Rattle.limits.specs.declared.ErrorCode.the-variants.{NoFreeBuffers, NumbersUsedUp}
+use Rattle.kernel.specs.declared.Choice.{Choice}
 use Rattle.covariance.specs.declared.Shape.{Shape}
+use Rattle.covariance.specs.Shapes.{covarianceXX, covarianceXY, covarianceYY}
 use Rattle.averaging.specs.Steps.{iterate}
 use Rattle.machine.specs.declared.Answer.the-variants.{Job, Refused}
 use Rattle.machine.specs.declared.Found.the-variants.{At}
 use Rattle.machine.specs.Slots.{slotAt}
 use Rattle.machine.specs.Store.{put, bufferAfter}
-use Rattle.machine.specs.Calls.{submit, Result, emptyPlace, lastNumber, freeBuffers, submittedChecks, submitChecks, newSlot, submitAt, submitOf}
+use Rattle.machine.specs.Calls.{submit, Result, emptyPlace, lastNumber, freeBuffers, choiceBy, submittedChecks, submitChecks, newSlot, submitAt, submitOf}
 use Rattle.machine.specs.History.{Event, Place, accepts, held, numbers, howMany, jobCount, heldCount}
 use Rattle.machine.specs.Demand.{numberUnless, submitAnswer, countdown}
 use Rattle.machine.proofs.Parts.{length-put, part-own, part-other}
@@ -31,10 +33,10 @@ use Rattle.machine.proofs.Words.{Untouched, same-held, started-held, st
 use Rattle.limits.proofs.Checks.{AllHold, all-hold}
 use Rattle.machine.proofs.Rules.{block, within-block, from-block, in-store, free-test}
 use Rattle.machine.proofs.Orderly.{empty-there, empty-found}
-use Rattle.machine.proofs.Invariant.{Invariant, size, Sits, JobFine, Change, changed, is-usable, fits-le}
+use Rattle.machine.proofs.Invariant.{Invariant, size, Sits, JobFine, Change, changed, is-usable, fits-le, choice-twice, free-of-choice}
 use Rattle.machine.proofs.Served.{Served, sets, refused-call}
 
-module _ (p : Place) (v : Invariant p) (shape : Shape) (k w h : ℕ) (pixels : List ℕ) where
+module _ (p : Place) (v : Invariant p) (choice : Choice) (shape : Shape) (k w h : ℕ) (pixels : List ℕ) where
   -- the checks, with what the calls and answers say in the place of the record
   abbrev tests : List Check
   tests =
@@ -52,7 +54,7 @@ module _ (p : Place) (v : Invariant p) (shape : Shape) (k w h : ℕ) (pixels : L
   number = p .service .last + 1
 
   abbrev event : Event
-  event = record { call = submit shape k w h pixels; answer = Job number; lent = pixels }
+  event = record { rules = p .rules; call = submit choice shape k w h pixels; answer = Job number; lent = pixels }
 
   is-new : (n : ℕ) → (n ≡ number → ⊥) → Untouched event n
   is-new n ne = record { unstarted = ne-eqb number n (λ x. ne (sym x)); unserved = refl; unended = refl }
@@ -91,9 +93,11 @@ module _ (p : Place) (v : Invariant p) (shape : Shape) (k w h : ℕ) (pixels : L
     small : w * h ≤ bufferPixels
     small = fits-le w h (all .1 .1 .1 .1 .1 .0)
 
-    job-fine : JobFine (record { shape = shape; steps = k; width = w; height = h; picture = pixels })
+    job-fine : JobFine (record { rules = p .rules; choice = choiceBy (p .rules) choice; shape = shape; steps = k; width = w; height = h; picture = pixels })
     job-fine =
         record {
+          workable = v .workable;
+          choice = choice-twice (p .rules) choice;
           variances = all .0;
           direction = all .1 .0;
           steps = all .1 .1 .0;
@@ -112,14 +116,14 @@ module _ (p : Place) (v : Invariant p) (shape : Shape) (k w h : ℕ) (pixels : L
     is-empty : (spot .0 < size p) × (slotAt (p .service) (spot .0) .number ≡ 0)
     is-empty = empty-found (p .rules) (v .workable) (p .service) (spot .0) (spot .1)
 
-    result : submitOf (p .rules) (p .service) (p .store) shape k w h pixels ≡ submitAt (p .rules) (p .service) (p .store) shape k w h pixels (At (spot .0))
+    result : submitOf (p .rules) (p .service) (p .store) choice shape k w h pixels ≡ submitAt (p .rules) (p .service) (p .store) choice shape k w h pixels (At (spot .0))
     unfolding submitOf
     result = rw (checks-are, fine, spot .1)
 
     room : bufferAfter (p .rules) (spot .0) 0 + length pixels ≤ length (p .store)
     room = rw (full, v .long) (in-store (p .rules) (v .workable) (spot .0) 0 (w * h) (is-empty .0) small)
 
-    sits : Sits (p .rules) (event ∷ p .history) (put (bufferAfter (p .rules) (spot .0) 0) pixels (p .store)) (spot .0) number (newSlot number shape k w h)
+    sits : Sits (p .rules) (event ∷ p .history) (put (bufferAfter (p .rules) (spot .0) 0) pixels (p .store)) (spot .0) number (newSlot (p .rules) number choice shape k w h)
     unfolding iterate
     sits =
         let j = started-job event (p .history) number starts-it in
@@ -128,13 +132,14 @@ module _ (p : Place) (v : Invariant p) (shape : Shape) (k w h : ℕ) (pixels : L
           positive = omega arith;
           known = rw jobs-now (omega (arith, number-is));
           is-held = started-held event (p .history) number starts-it;
-          is = rw (j, t, sub-zero k);
+          is = rw (j, t, sub-zero k, free-of-choice choice (covarianceXX shape) (covarianceXY shape) (covarianceYY shape) k (p .rules .holdsChoice));
+          chosen = rw j (choice-twice (p .rules) choice);
           few = rw t (omega arith);
           fine = rw j job-fine;
           image = rw (j, t) (part-own (bufferAfter (p .rules) (spot .0) 0) (w * h) pixels (p .store) full (omega (arith, full, room)));
         }
 
-    change : Change p (submit shape k w h pixels) (spot .0) number (newSlot number shape k w h)
+    change : Change p (submit choice shape k w h pixels) (spot .0) number (newSlot (p .rules) number choice shape k w h)
     change =
         record {
           at = is-empty .0;
@@ -167,24 +172,24 @@ module _ (p : Place) (v : Invariant p) (shape : Shape) (k w h : ℕ) (pixels : L
             (λ z. let q = sym (ap (λ s. s .number) (z .1 .is)) ∙ w .2 in absurd (omega (arith, z .1 .known, number-is))) (v .taken (w .0) (w .1))
         go false e = e
 
-    submit-accepted : Served p (submit shape k w h pixels) (Job (jobCount (p .history) + 1))
+    submit-accepted : Served p (submit choice shape k w h pixels) (Job (jobCount (p .history) + 1))
     submit-accepted =
         record {
           answered = ap (λ (r : Result). r .answer) result ∙ ap Job (ap (λ n. n + 1) (v .last));
-          keeps = changed p v (submit shape k w h pixels) (spot .0) number (newSlot number shape k w h) change;
-          effect = sets (spot .0) number (newSlot number shape k w h) change (inl unheld);
+          keeps = changed p v (submit choice shape k w h pixels) (spot .0) number (newSlot (p .rules) number choice shape k w h) change;
+          effect = sets (spot .0) number (newSlot (p .rules) number choice shape k w h) change (inl unheld);
           turn = λ t. ap (λ (r : Result). r .service .served) result;
           unchanged = λ e. absurd (true≢false (sym (ap (λ (r : Result). accepts (r .answer)) result) ∙ e));
         }
 
   refused : (code : ErrorCode) → checks ≡ O.Refused code
-      → submitOf (p .rules) (p .service) (p .store) shape k w h pixels ≡ record { answer = Refused code; service = p .service; store = p .store; lent = pixels }
+      → submitOf (p .rules) (p .service) (p .store) choice shape k w h pixels ≡ record { answer = Refused code; service = p .service; store = p .store; lent = pixels }
   unfolding submitOf
   refused code e = rw (checks-are, e)
 
-  submits-when : (o : Outcome) → checks ≡ o → Served p (submit shape k w h pixels) (numberUnless o (jobCount (p .history) + 1))
+  submits-when : (o : Outcome) → checks ≡ o → Served p (submit choice shape k w h pixels) (numberUnless o (jobCount (p .history) + 1))
   submits-when O.Accepted e = submit-accepted e
-  submits-when (O.Refused code) e = refused-call p v (submit shape k w h pixels) code (refused code e)
+  submits-when (O.Refused code) e = refused-call p v (submit choice shape k w h pixels) code (refused code e)
 
-  pub submits : Served p (submit shape k w h pixels) (submitAnswer (p .rules) (p .history) shape k w h pixels)
+  pub submits : Served p (submit choice shape k w h pixels) (submitAnswer (p .rules) (p .history) shape k w h pixels)
   submits = submits-when checks refl

@@ -27,7 +27,7 @@ use Rattle.machine.proofs.Parts.{length-put, part-own, part-other}
 use Rattle.machine.proofs.Words.{Untouched, kept-held, kept-job, served-ticks, many-ext}
 use Rattle.machine.proofs.Rules.{block, within-block, from-block, in-store}
 use Rattle.machine.proofs.Orderly.{served-found}
-use Rattle.machine.proofs.Invariant.{Invariant, size, Sits, slotOf, Change, changed, is-usable, fits-le}
+use Rattle.machine.proofs.Invariant.{Invariant, size, Sits, slotOf, Change, changed, is-usable, fits-le, own-kernel}
 use Rattle.machine.proofs.Served.{Served, sets, idle-call}
 
 module _ (p : Place) (v : Invariant p) where
@@ -62,7 +62,7 @@ module _ (p : Place) (v : Invariant p) where
     done = ticksOf (p .history) n
 
     abbrev event : Event
-    event = record { call = tick; answer = Job (slotAt (p .service) i .number); lent = [] }
+    event = record { rules = p .rules; call = tick; answer = Job (slotAt (p .service) i .number); lent = [] }
 
     number : slotAt (p .service) i .number ≡ n
     number = ap (λ (s : Slot). s .number) (s .is)
@@ -87,7 +87,7 @@ module _ (p : Place) (v : Invariant p) where
 
     next-is : nextImage (p .rules) (p .store) i (slotAt (p .service) i) ≡ image
     next-is =
-        rw (s .is)
+        rw (s .is, own-kernel (p .rules) n job (stepsLeft (p .history) n) (s .fine) (s .chosen))
         (ap (stepOf (kernelOfJob job) (job .width) (job .height))
         (ap (λ d. part (bufferAfter (p .rules) i d) (job .width * job .height) (p .store)) (let f = s .few in let y : job .steps - (job .steps - done) ≡ done = omega arith in y) ∙ s .image))
 
@@ -124,7 +124,8 @@ module _ (p : Place) (v : Invariant p) where
           positive = s .positive;
           known = rw same-given (s .known);
           is-held = kept-held event (p .history) n refl refl ∙ s .is-held;
-          is = rw (job-now, ticks-now) (ap steppedSlot (s .is) ∙ ap (slotOf n job) (let y : job .steps - done - 1 ≡ job .steps - (done + 1) = omega arith in y));
+          is = rw (job-now, ticks-now) (ap steppedSlot (s .is) ∙ ap (slotOf (p .rules) n job) (let y : job .steps - done - 1 ≡ job .steps - (done + 1) = omega arith in y));
+          chosen = rw job-now (s .chosen);
           few = rw (job-now, ticks-now) (let g = some-left in omega arith);
           fine = rw job-now (s .fine);
           image = rw (job-now, ticks-now) (part-own (bufferAfter (p .rules) i (done + 1)) (job .width * job .height) image (p .store) length-now (omega (arith, length-now, room)) ∙ rw (add-one done));

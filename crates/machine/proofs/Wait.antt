@@ -1,5 +1,6 @@
 -- The wait, for any number of slots. A job with steps left is at most a round away from being served: with d slots before it,
--- (slots) × (steps left) + d falls with every tick, and no other call makes it grow. Assumes nothing.
+-- (slots) × (steps left) + d falls with every tick, and no other call and no change-over makes it grow.
+-- Assumes nothing.
 use mathlib.Core.Path.{_≡_, refl, sym, _∙_, ap, subst}
 use mathlib.Core.Bool.{Bool, true, false, _&&_, _||_, true≢false}
 use mathlib.Core.Logic.{_⊎_, inl, inr, ⊎-elim}
@@ -16,11 +17,12 @@ use Rattle.machine.specs.declared.Answer.the-variants.{Refused}
 use Rattle.machine.specs.declared.Found.the-variants.{At}
 use Rattle.machine.specs.Slots.{emptySlot, slotAt, hasStepsLeft, nextPlace}
 use Rattle.machine.specs.Calls.{Call, submit, tick, collect, withdraw, servedPlace}
-use Rattle.machine.specs.History.{Event, Place, next, eventOf, after, since, accepts, answersNumber, serves, ends, withdrawsBy, jobOf, held, ticksOf, stepsLeft, jobCount, withdrawnIn, oneForTick, ticksIn}
+use Rattle.machine.specs.History.{Event, Place, Entry, calling, changing, next, eventOf, onward, after, since, accepts, answersNumber, serves, ends, withdrawsBy, jobOf, held, ticksOf, stepsLeft, jobCount, withdrawnIn, oneForTick, ticksIn}
 use Rattle.machine.specs.Demand.{answerAt, collectAnswer}
 use Rattle.machine.proofs.Search.{Ahead, Hit, hit, nearer, round-again, next-lt}
 use Rattle.machine.proofs.Words.{untouched-by, same-held, same-job, same-ticks, kept-held, kept-job, served-ticks}
 use Rattle.machine.proofs.Invariant.{Invariant, size, Change}
+use Rattle.machine.proofs.Changes.{same-history, same-size, same-served, same-number, change-keeps}
 use Rattle.machine.proofs.Served.{Effect, still, sets}
 use Rattle.machine.proofs.Ticks.{Ticked, idled, served, ticked}
 use Rattle.machine.proofs.Ends.{collects}
@@ -65,8 +67,8 @@ pub record Waiting (p : Place) (n i d : ℕ) : Type 0 where
   pub below : d < size p
 
 -- what one call does to a job that waits: it was withdrawn, or it waits on and is no further from its end
-pub Onward : Place → Call → ℕ → ℕ → ℕ → Type 0
-Onward p c n i d =
+pub WaitsOn : Place → Call → ℕ → ℕ → ℕ → Type 0
+WaitsOn p c n i d =
     (withdrawsBy c (answerAt p c) n ≡ true)
     ⊎ ((e : ℕ) × Waiting (next p c) n i e × (size p * stepsLeft (next p c .history) n + e + oneForTick c ≤ size p * stepsLeft (p .history) n + d))
 
@@ -77,8 +79,8 @@ module _ (p : Place) (v : Invariant p) (n i d : ℕ) (x : Waiting p n i d) (left
   -- a call that is no tick and does not touch the job
   apart : (c : Call) → oneForTick c ≡ 0 → next p c .service .served ≡ p .service .served → held (next p c .history) n ≡ held (p .history) n
       → jobOf (next p c .history) n ≡ jobOf (p .history) n → ticksOf (next p c .history) n ≡ ticksOf (p .history) n
-      → slotAt (next p c .service) i ≡ slotAt (p .service) i → Onward p c n i d
-  unfolding Onward
+      → slotAt (next p c .service) i ≡ slotAt (p .service) i → WaitsOn p c n i d
+  unfolding WaitsOn
   apart c t s h j k sl =
       inr (
         d,
@@ -94,29 +96,29 @@ module _ (p : Place) (v : Invariant p) (n i d : ℕ) (x : Waiting p n i d) (left
       (λ e. ⊎-elim (λ z. let q = sym (x .number) ∙ ap (λ j. slotAt (p .service) j .number) e ∙ z in let g = positive in omega arith)
       (λ z. ne (sym (x .number) ∙ ap (λ j. slotAt (p .service) j .number) e ∙ z)) (u .before)))
 
-  still-onward : (c : Call) → oneForTick c ≡ 0 → accepts (answerAt p c) ≡ false → next p c .service ≡ p .service → Onward p c n i d
-  still-onward c t a s =
+  still-waits : (c : Call) → oneForTick c ≡ 0 → accepts (answerAt p c) ≡ false → next p c .service ≡ p .service → WaitsOn p c n i d
+  still-waits c t a s =
       let y = untouched-by (eventOf p c) a n in
       apart c t (ap (λ r. r .served) s) (same-held (eventOf p c) (p .history) n y) (same-job (eventOf p c) (p .history) n y) (same-ticks (eventOf p c) (p .history) n y) (ap (λ r. slotAt r i) s)
 
-  other-onward : (c : Call) → oneForTick c ≡ 0 → next p c .service .served ≡ p .service .served → (k m : ℕ) (s : Slot) → Change p c k m s → (n ≡ m → ⊥) → Onward p c n i d
-  other-onward c t s k m sl u ne =
+  other-waits : (c : Call) → oneForTick c ≡ 0 → next p c .service .served ≡ p .service .served → (k m : ℕ) (s : Slot) → Change p c k m s → (n ≡ m → ⊥) → WaitsOn p c n i d
+  other-waits c t s k m sl u ne =
       let y = u .others n ne in
       apart c t s (same-held (eventOf p c) (p .history) n y) (same-job (eventOf p c) (p .history) n y) (same-ticks (eventOf p c) (p .history) n y) (elsewhere c k m sl u ne)
 
   -- a call that is no tick, where what it does to the job itself is known
   by-effect : (c : Call) → oneForTick c ≡ 0 → next p c .service .served ≡ p .service .served
-      → (ends (eventOf p c) n ≡ true → Onward p c n i d) → (serves (eventOf p c) n ≡ true → ⊥) → Effect p c → Onward p c n i d
-  by-effect c t s own no-serve (still a e) = still-onward c t a e
+      → (ends (eventOf p c) n ≡ true → WaitsOn p c n i d) → (serves (eventOf p c) n ≡ true → ⊥) → Effect p c → WaitsOn p c n i d
+  by-effect c t s own no-serve (still a e) = still-waits c t a e
   by-effect c t s own no-serve (sets k m sl u touch) = go (eqb n m) refl
     where
-      go : (b : Bool) → eqb n m ≡ b → Onward p c n i d
+      go : (b : Bool) → eqb n m ≡ b → WaitsOn p c n i d
       go true e =
           let q = eqb-true n m e in
           ⊎-elim
           (λ z. absurd (true≢false (sym (x .is-held) ∙ ap (held (p .history)) q ∙ z)))
           (λ z. ⊎-elim (λ y. own (rw q y)) (λ y. absurd (no-serve (rw q y))) z) touch
-      go false e = other-onward c t s k m sl u (eqb-false n m e)
+      go false e = other-waits c t s k m sl u (eqb-false n m e)
 
   -- a collect of a job with steps left is refused
   not-collected : (m : ℕ) (lent : List ℕ) → ends (eventOf p (collect m lent)) n ≡ true → ⊥
@@ -146,10 +148,10 @@ module _ (p : Place) (v : Invariant p) (n i d : ℕ) (x : Waiting p n i d) (left
   held-on : held (next p tick .history) n ≡ true
   held-on = kept-held (eventOf p tick) (p .history) n refl refl ∙ x .is-held
 
-  tick-onward : Ticked p v → Onward p tick n i d
-  unfolding Onward
-  tick-onward (idled e s none) = absurd (let z = none n (x .is-held) in omega arith)
-  tick-onward (served k m e h s u l turn done) =
+  tick-waits : Ticked p v → WaitsOn p tick n i d
+  unfolding WaitsOn
+  tick-waits (idled e s none) = absurd (let z = none n (x .is-held) in omega arith)
+  tick-waits (served k m e h s u l turn done) =
       let here : found .at ≡ k = same (found .is) e in
       go (eqb i k) refl (subst (λ j. Ahead (size p) (nextPlace (size p) (p .service .served)) j (found .from)) here (found .ahead))
     where
@@ -197,36 +199,51 @@ module _ (p : Place) (v : Invariant p) (n i d : ℕ) (x : Waiting p n i d) (left
             rw (job-on, same-ticks (eventOf p tick) (p .history) n y) (omega (arith, w .2)),
           )
 
-  pub onward : (c : Call) → Onward p c n i d
-  unfolding Onward
-  onward (submit shape k w h pixels) =
-      let s = answers p v (submit shape k w h pixels) .1 in
-      by-effect (submit shape k w h pixels) refl (s .turn refl) (λ e. absurd (true≢false (sym e))) (λ e. true≢false (sym e)) (s .effect)
-  onward tick = tick-onward (ticked p v)
-  onward (collect m lent) =
+  pub waits-on : (c : Call) → WaitsOn p c n i d
+  unfolding WaitsOn
+  waits-on (submit choice shape k w h pixels) =
+      let s = answers p v (submit choice shape k w h pixels) .1 in
+      by-effect (submit choice shape k w h pixels) refl (s .turn refl) (λ e. absurd (true≢false (sym e))) (λ e. true≢false (sym e)) (s .effect)
+  waits-on tick = tick-waits (ticked p v)
+  waits-on (collect m lent) =
       let s = answers p v (collect m lent) .1 in
       by-effect (collect m lent) refl (s .turn refl) (λ e. absurd (not-collected m lent e)) (λ e. true≢false (sym e)) (s .effect)
-  onward (withdraw m) =
+  waits-on (withdraw m) =
       let s = answers p v (withdraw m) .1 in
       by-effect (withdraw m) refl (s .turn refl) (λ e. inl e) (λ e. true≢false (sym e)) (s .effect)
 
-pub waits : (cs : List Call) (p : Place) → Invariant p → (n i d : ℕ) → Waiting p n i d → n ≤ jobCount (p .history)
-    → size p * stepsLeft (p .history) n + d ≤ ticksIn cs + (size p - 1)
-    → (stepsLeft (after p cs .history) n ≡ 0) ⊎ (withdrawnIn (since p cs) n ≡ true)
-unfolding after since ticksIn Onward
+-- the change-over leaves a job where it waits
+pub change-waits : (p : Place) (n i d : ℕ) → Waiting p n i d → Waiting (onward p changing) n i d
+change-waits p n i d x =
+    record {
+      is-held = ap (λ es. held es n) (same-history p) ∙ x .is-held;
+      at = rw (same-size p) (x .at);
+      number = same-number p i ∙ x .number;
+      ahead = rw (same-size p, same-served p) (x .ahead);
+      below = rw (same-size p) (x .below);
+    }
+
+pub waits : (es : List Entry) (p : Place) → Invariant p → (n i d : ℕ) → Waiting p n i d → n ≤ jobCount (p .history)
+    → size p * stepsLeft (p .history) n + d ≤ ticksIn es + (size p - 1)
+    → (stepsLeft (after p es .history) n ≡ 0) ⊎ (withdrawnIn (since p es) n ≡ true)
+unfolding after since ticksIn WaitsOn
 waits [] p v n i d x k b = inl (no-round (size p) (stepsLeft (p .history) n) d (v .workable .some-slot) (rw (zero-add (size p - 1)) at b))
-waits (c ∷ cs) p v n i d x k b =
+waits (changing ∷ es) p v n i d x k b =
+    ⊎-elim (λ y. inl y) (λ y. inr (withdrawn-append (since (onward p changing) es) [] n ∙ or-left _ _ y))
+    (waits es (onward p changing) (change-keeps p v) n i d (change-waits p n i d x) (rw (same-history p) k)
+    (rw (same-size p, same-history p) (rw (zero-add (ticksIn es)) at b)))
+waits (calling c ∷ es) p v n i d x k b =
     go (eqb (stepsLeft (p .history) n) 0) refl
-    (λ e y l. waits cs (next p c) (next-invariant p v c) n i e y (le-trans k (jobs-grow p v c)) l)
+    (λ e y l. waits es (next p c) (next-invariant p v c) n i e y (le-trans k (jobs-grow p v c)) l)
   where
     go : (t : Bool) → eqb (stepsLeft (p .history) n) 0 ≡ t
-        → ((e : ℕ) → Waiting (next p c) n i e → size p * stepsLeft (next p c .history) n + e ≤ ticksIn cs + (size p - 1)
-        → (stepsLeft (after (next p c) cs .history) n ≡ 0) ⊎ (withdrawnIn (since (next p c) cs) n ≡ true))
-        → (stepsLeft (after (next p c) cs .history) n ≡ 0) ⊎ (withdrawnIn (since (next p c) cs ++ (eventOf p c ∷ [])) n ≡ true)
-    go true z f = inl (stays-finished (c ∷ cs) p v n k (eqb-true (stepsLeft (p .history) n) 0 z))
+        → ((e : ℕ) → Waiting (next p c) n i e → size p * stepsLeft (next p c .history) n + e ≤ ticksIn es + (size p - 1)
+        → (stepsLeft (after (next p c) es .history) n ≡ 0) ⊎ (withdrawnIn (since (next p c) es) n ≡ true))
+        → (stepsLeft (after (next p c) es .history) n ≡ 0) ⊎ (withdrawnIn (since (next p c) es ++ (eventOf p c ∷ [])) n ≡ true)
+    go true z f = inl (stays-finished (calling c ∷ es) p v n k (eqb-true (stepsLeft (p .history) n) 0 z))
     go false z f =
         let some = eqb-false (stepsLeft (p .history) n) 0 z in
         ⊎-elim
-        (λ w. inr (withdrawn-append (since (next p c) cs) (eventOf p c ∷ []) n ∙ or-right (withdrawnIn (since (next p c) cs) n) _ (withdrawn-one (eventOf p c) n w)))
-        (λ w. ⊎-elim (λ y. inl y) (λ y. inr (withdrawn-append (since (next p c) cs) (eventOf p c ∷ []) n ∙ or-left _ _ y)) (f (w .0) (w .1) (omega (arith, w .2))))
-        (onward p v n i d x (omega arith) c)
+        (λ w. inr (withdrawn-append (since (next p c) es) (eventOf p c ∷ []) n ∙ or-right (withdrawnIn (since (next p c) es) n) _ (withdrawn-one (eventOf p c) n w)))
+        (λ w. ⊎-elim (λ y. inl y) (λ y. inr (withdrawn-append (since (next p c) es) (eventOf p c ∷ []) n ∙ or-left _ _ y)) (f (w .0) (w .1) (omega (arith, w .2))))
+        (waits-on p v n i d x (omega arith) c)

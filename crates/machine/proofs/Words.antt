@@ -10,6 +10,7 @@ use lib.Dec.{eqb}
 use lib.ListN.{length}
 use Rattle.machine.specs.declared.Answer.{Answer}
 use Rattle.machine.specs.declared.Answer.the-variants.{Job, Idle, Refused}
+use Rattle.machine.specs.Rules.{Rules}
 use Rattle.machine.specs.Calls.{Call, submit, tick, collect, withdraw}
 use Rattle.machine.specs.History.{Event, accepts, starts, serves, ends, submittedBy, noJob, jobOf, held, ticksOf, givenBy, numbers, howMany, heldCount}
 use Rattle.machine.specs.Demand.{countdown}
@@ -38,7 +39,7 @@ pub started-held : (e : Event) (es : List Event) (n : ℕ) → starts e n ≡ tr
 unfolding held
 started-held e es n s = rw s
 
-pub started-job : (e : Event) (es : List Event) (n : ℕ) → starts e n ≡ true → jobOf (e ∷ es) n ≡ submittedBy (e .call) noJob
+pub started-job : (e : Event) (es : List Event) (n : ℕ) → starts e n ≡ true → jobOf (e ∷ es) n ≡ submittedBy (e .rules) (e .call) noJob
 unfolding jobOf
 started-job e es n s = rw s
 
@@ -107,27 +108,28 @@ and-false : (t : Bool) → t && false ≡ false
 and-false true = refl
 and-false false = refl
 
-touches-none : (c : Call) (a : Answer) (lent : List ℕ) → accepts a ≡ false → (n : ℕ) → Untouched (record { call = c; answer = a; lent = lent }) n
-touches-none c (Job m) lent h n = absurd (true≢false h)
-touches-none (submit shape k w y pixels) Idle lent h n = record { unstarted = refl; unserved = refl; unended = refl }
-touches-none tick Idle lent h n = record { unstarted = refl; unserved = refl; unended = refl }
-touches-none (collect m mine) Idle lent h n = record { unstarted = refl; unserved = refl; unended = and-false (eqb m n) }
-touches-none (withdraw m) Idle lent h n = record { unstarted = refl; unserved = refl; unended = and-false (eqb m n) }
-touches-none (submit shape k w y pixels) (Refused code) lent h n = record { unstarted = refl; unserved = refl; unended = refl }
-touches-none tick (Refused code) lent h n = record { unstarted = refl; unserved = refl; unended = refl }
-touches-none (collect m mine) (Refused code) lent h n = record { unstarted = refl; unserved = refl; unended = and-false (eqb m n) }
-touches-none (withdraw m) (Refused code) lent h n = record { unstarted = refl; unserved = refl; unended = and-false (eqb m n) }
+touches-none : (rules : Rules) (c : Call) (a : Answer) (lent : List ℕ) → accepts a ≡ false → (n : ℕ)
+    → Untouched (record { rules = rules; call = c; answer = a; lent = lent }) n
+touches-none rules c (Job m) lent h n = absurd (true≢false h)
+touches-none rules (submit choice shape k w y pixels) Idle lent h n = record { unstarted = refl; unserved = refl; unended = refl }
+touches-none rules tick Idle lent h n = record { unstarted = refl; unserved = refl; unended = refl }
+touches-none rules (collect m mine) Idle lent h n = record { unstarted = refl; unserved = refl; unended = and-false (eqb m n) }
+touches-none rules (withdraw m) Idle lent h n = record { unstarted = refl; unserved = refl; unended = and-false (eqb m n) }
+touches-none rules (submit choice shape k w y pixels) (Refused code) lent h n = record { unstarted = refl; unserved = refl; unended = refl }
+touches-none rules tick (Refused code) lent h n = record { unstarted = refl; unserved = refl; unended = refl }
+touches-none rules (collect m mine) (Refused code) lent h n = record { unstarted = refl; unserved = refl; unended = and-false (eqb m n) }
+touches-none rules (withdraw m) (Refused code) lent h n = record { unstarted = refl; unserved = refl; unended = and-false (eqb m n) }
 
 pub untouched-by : (e : Event) → accepts (e .answer) ≡ false → (n : ℕ) → Untouched e n
-untouched-by e h n = touches-none (e .call) (e .answer) (e .lent) h n
+untouched-by e h n = touches-none (e .rules) (e .call) (e .answer) (e .lent) h n
 
 gives-none : (c : Call) (a : Answer) (ns : List ℕ) → accepts a ≡ false → givenBy c a ns ≡ ns
 gives-none c (Job m) ns h = absurd (true≢false h)
-gives-none (submit shape k w y pixels) Idle ns h = refl
+gives-none (submit choice shape k w y pixels) Idle ns h = refl
 gives-none tick Idle ns h = refl
 gives-none (collect m mine) Idle ns h = refl
 gives-none (withdraw m) Idle ns h = refl
-gives-none (submit shape k w y pixels) (Refused code) ns h = refl
+gives-none (submit choice shape k w y pixels) (Refused code) ns h = refl
 gives-none tick (Refused code) ns h = refl
 gives-none (collect m mine) (Refused code) ns h = refl
 gives-none (withdraw m) (Refused code) ns h = refl

@@ -1,6 +1,7 @@
 -- Lists of calls worked out by hand from REFERENCE, with what it says is answered, and one computed proof that the definitions
 -- answer the same. They hold what demand 3 leaves open, such as the order in which seats are filled, and each definition by numbers
--- that do not come from the code. Two lists are by rules that no document has. Assumes nothing.
+-- that do not come from the code. Two lists are by rules that no document has. Assumes
+-- nothing.
 use mathlib.Core.Path.{_≡_, refl}
 use mathlib.Core.Bool.{true, false}
 use mathlib.Core.List.{List, [], _∷_, _++_, map}
@@ -8,8 +9,9 @@ use Prim.Native.Nat.{ℕ}
 use lib.ListN.{replicate}
 use lib.IntN.{pos, negsuc}
 use lib.Ieee.{Float, nan, fin, add, sub, mul, le}
+use Rattle.kernel.specs.declared.Choice.the-variants.{Binomial, Smallest}
 use Rattle.kernel.specs.Molecule.{kernelWith}
-use Rattle.kernel.specs.Existence.{kernelExists}
+use Rattle.kernel.specs.Existence.{kernelExists, freeFits}
 use Rattle.image.specs.Image.{pixelAt, entries, rows}
 use Rattle.covariance.specs.declared.Shape.{Shape}
 use Rattle.covariance.specs.declared.Shape.the-variants.{Matrix, Round, Oval}
@@ -19,13 +21,13 @@ use Rattle.covariance.specs.Shapes.{varianceInRange, cosineInRange, squareInRan
 use Rattle.averaging.specs.Steps.{iterate, stepOf, weightedAt}
 use Rattle.machine.specs.declared.Slot.{Slot}
 use Rattle.machine.specs.declared.Service.{Service}
-use Rattle.machine.specs.Rules.{baseRules}
+use Rattle.machine.specs.Rules.{baseRules, choiceRules}
 use Rattle.machine.specs.Slots.{firstFrom, countOf, everyPlace}
 use Rattle.machine.specs.Order.{allZero, filledFine, slotFine, inOrder, usable}
 use Rattle.machine.specs.Calls.{submit, tick, collect, withdraw, freeBuffers, submitChecks, submitOf, tickOf, collectChecks, collectOf, withdrawOf, freeCountOf}
-use Rattle.machine.specs.History.{opened, after, since, jobOf, held, ticksOf, numbers, howMany, withdrawnIn, ticksIn}
+use Rattle.machine.specs.History.{calling, changing, opened, after, since, jobOf, held, ticksOf, numbers, howMany, withdrawnIn, ticksIn}
 use Rattle.machine.specs.Demand.{allAccepted}
-use Rattle.machine.proofs.Lines.{Worked, computed, called, counted, stands, stored, word, job, given, accepted, waits, lone, submits, submit-refused, ticks, idles, collects, collect-refused, withdraws, withdraw-refused, free, seat, none, keeps, placed}
+use Rattle.machine.proofs.Lines.{Worked, computed, called, counted, stands, stored, word, job, given, accepted, waits, lone, changes, chooses, submits-by, submits, submit-refused, ticks, idles, collects, collect-refused, withdraws, withdraw-refused, free, seat, seat-with, none, keeps, placed-by, placed}
 
 -- ---- pictures and shapes
 -- a store "of any value"
@@ -96,9 +98,9 @@ day =
           ∷ stored 0 (0 ∷ 16 ∷ 7 ∷ [])
           ∷ stored 2047 (7 ∷ 5 ∷ 7 ∷ [])
           ∷ stored 4095 (7 ∷ 16384 ∷ 0 ∷ 0 ∷ 0 ∷ 7 ∷ [])
-          ∷ job 2 (record { shape = uneven; steps = 3; width = 1; height = 1; picture = 5 ∷ [] })
+          ∷ job 2 (record { rules = baseRules; choice = Smallest; shape = uneven; steps = 3; width = 1; height = 1; picture = 5 ∷ [] })
           -- of a number that no submit answered, a job of no steps
-          ∷ job 4 (record { shape = still; steps = 0; width = 0; height = 0; picture = [] })
+          ∷ job 4 (record { rules = baseRules; choice = Smallest; shape = still; steps = 0; width = 0; height = 0; picture = [] })
           -- ticks in turn, each "to the seat's other" buffer, "w × h pixels only"; a collect before the last step: 8, before 9
           ∷ ticks 1
           ∷ stored 0 (0 ∷ 16 ∷ 7 ∷ [])
@@ -142,11 +144,11 @@ day =
           4 3 0)
           ∷ stored 6143 (7 ∷ 8 ∷ 7 ∷ [])
           -- the wait: job 2 has 2 steps left, and 8 × 2 ticks may follow
-          ∷ waits 2 (replicate 16 tick) 16 true false
-          ∷ waits 2 (tick ∷ withdraw 2 ∷ replicate 15 tick) 16 false true
-          ∷ waits 2 (tick ∷ tick ∷ submit still 1 1 1 (6 ∷ []) ∷ withdraw 1 ∷ []) 2 false false
+          ∷ waits 2 (replicate 16 (calling tick)) 16 true false
+          ∷ waits 2 (calling tick ∷ calling (withdraw 2) ∷ replicate 15 (calling tick)) 16 false true
+          ∷ waits 2 (map calling (tick ∷ tick ∷ submit Smallest still 1 1 1 (6 ∷ []) ∷ withdraw 1 ∷ [])) 2 false false
           -- seats 1, 3 and 1 are served; a collect and a refused withdraw of it are no withdraw, nor is one of another job
-          ∷ waits 2 (tick ∷ tick ∷ tick ∷ collect 2 (9 ∷ []) ∷ withdraw 2 ∷ withdraw 1 ∷ []) 3 true false
+          ∷ waits 2 (map calling (tick ∷ tick ∷ tick ∷ collect 2 (9 ∷ []) ∷ withdraw 2 ∷ withdraw 1 ∷ [])) 3 true false
           ∷ waits 2 [] 0 false false
           -- a tick goes on from the seat last served; a withdraw of a job that is not finished; then idle, which changes nothing
           ∷ ticks 2
@@ -254,8 +256,8 @@ floats =
           4 3 7)
           ∷ stored 6143 (7 ∷ 3 ∷ [])
           ∷ stored 7167 (3 ∷ 7 ∷ [])
-          ∷ lone (record { shape = leaning; steps = 3; width = 2; height = 1; picture = 0 ∷ 16 ∷ [] })
-          (submit leaning 3 2 1 (0 ∷ 16 ∷ []) ∷ tick ∷ tick ∷ tick ∷ [])
+          ∷ lone (record { rules = baseRules; choice = Smallest; shape = leaning; steps = 3; width = 2; height = 1; picture = 0 ∷ 16 ∷ [] })
+          (map calling (submit Smallest leaning 3 2 1 (0 ∷ 16 ∷ []) ∷ tick ∷ tick ∷ tick ∷ []))
           ∷ [];
     }
 
@@ -390,7 +392,7 @@ records =
 abbrev pub three-slots : Worked
 three-slots =
     record {
-      from = opened (record { slotCount = 3; buffersPerSlot = 1 }) sevens;
+      from = opened (record { slotCount = 3; buffersPerSlot = 1; holdsChoice = false }) sevens;
       lines =
           stands (keeps (none ∷ none ∷ none ∷ []) 0 2 2)
           ∷ free 3
@@ -426,7 +428,7 @@ three-slots =
 abbrev pub two-slots : Worked
 two-slots =
     record {
-      from = opened (record { slotCount = 2; buffersPerSlot = 3 }) sevens;
+      from = opened (record { slotCount = 2; buffersPerSlot = 3; holdsChoice = false }) sevens;
       lines =
           free 6
           ∷ submits still 1 1 1 (5 ∷ []) 1
@@ -449,6 +451,179 @@ two-slots =
           ∷ [];
     }
 
+-- ---- S-3: the rules with a choice. Case a's shape, and the same over two steps; a picture with 1600 in its middle
+abbrev pub case-a : Shape
+case-a = Matrix (pos 2048) (pos 0) (pos 2048)
+
+abbrev pub twice : Shape
+twice = Matrix (pos 4096) (pos 0) (pos 4096)
+
+abbrev pub spot : List ℕ
+spot = 0 ∷ 0 ∷ 0 ∷ 0 ∷ 1600 ∷ 0 ∷ 0 ∷ 0 ∷ 0 ∷ []
+
+-- "Case a then has pixels 100 in the corners, 200 at the sides, 400 in the centre"; by the smallest f its weights are a quarter at each
+-- side and 0 elsewhere
+abbrev pub binomial-spot : List ℕ
+binomial-spot = 100 ∷ 200 ∷ 100 ∷ 200 ∷ 400 ∷ 200 ∷ 100 ∷ 200 ∷ 100 ∷ []
+
+abbrev pub hollow-spot : List ℕ
+hollow-spot = 0 ∷ 400 ∷ 0 ∷ 400 ∷ 0 ∷ 400 ∷ 0 ∷ 400 ∷ 0 ∷ []
+
+-- one step more of a quarter at each side: a corner has two sides of 400 and itself twice beside it, a side itself and three zeros, and
+-- the middle four sides
+abbrev pub hollow-twice : List ℕ
+hollow-twice = 200 ∷ 100 ∷ 200 ∷ 100 ∷ 400 ∷ 100 ∷ 200 ∷ 100 ∷ 200 ∷ []
+
+abbrev pub nines : List ℕ
+nines = replicate 9 9
+
+-- "submit takes the choice of S-2 too": f of the binomial choice is half of 3 × 2048 − 4096, the smallest is 0, and a submit that names none
+-- has the first
+abbrev pub choices : Worked
+choices =
+    record {
+      from = opened choiceRules sevens;
+      lines =
+          stands (keeps (none ∷ none ∷ none ∷ none ∷ none ∷ none ∷ none ∷ none ∷ []) 0 7 7)
+          ∷ chooses true
+          ∷ free 16
+          ∷ submits-by Binomial case-a 1 3 3 spot 1
+          ∷ submits-by Smallest case-a 1 3 3 spot 2
+          ∷ submits case-a 1 3 3 spot 3
+          ∷ stands
+          (keeps
+          (seat-with 1024 (seat 1 (pos 2048) (pos 0) (pos 2048) 1 1 3 3)
+          ∷ seat-with 0 (seat 2 (pos 2048) (pos 0) (pos 2048) 1 1 3 3)
+          ∷ seat-with 1024 (seat 3 (pos 2048) (pos 0) (pos 2048) 1 1 3 3)
+          ∷ none ∷ none ∷ none ∷ none ∷ none ∷ [])
+          3 2 7)
+          ∷ job 2 (record { rules = choiceRules; choice = Smallest; shape = case-a; steps = 1; width = 3; height = 3; picture = spot })
+          -- there is nothing to change over: 2
+          ∷ changes 2
+          ∷ ticks 1
+          ∷ ticks 2
+          ∷ ticks 3
+          ∷ idles
+          ∷ collects 1 nines binomial-spot
+          ∷ collects 2 nines hollow-spot
+          ∷ collects 3 nines binomial-spot
+          ∷ stands (keeps (none ∷ none ∷ none ∷ none ∷ none ∷ none ∷ none ∷ none ∷ []) 3 2 2)
+          ∷ [];
+    }
+
+-- "from the opening on calls by the old rules, then the change-over, then calls by the new": job 1 is half done and job 2 waits when the
+-- record changes over; |xy| of `leaning` is 1000, so its smallest f is
+abbrev pub changed : Worked
+changed =
+    record {
+      from = opened baseRules sevens;
+      lines =
+          chooses false
+          -- what stands in the place of a choice is not read
+          ∷ submits-by Binomial twice 2 3 3 spot 1
+          ∷ submits leaning 2 1 1 (5 ∷ []) 2
+          ∷ ticks 1
+          ∷ stored 1024 hollow-spot
+          ∷ free 12
+          -- job 1 has a step left, and 8 ticks may follow, with the change-over anywhere among them
+          ∷ waits 1 (changing ∷ replicate 8 (calling tick)) 8 true false
+          ∷ waits 1 (calling tick ∷ calling tick ∷ changing ∷ replicate 6 (calling tick)) 8 true false
+          ∷ waits 1 (calling tick ∷ changing ∷ calling (withdraw 1) ∷ replicate 7 (calling tick)) 8 false true
+          ∷ stands
+          (keeps
+          (seat 1 (pos 4096) (pos 0) (pos 4096) 2 1 3 3 ∷ seat 2 (pos 1000) (pos 1000) (pos 1000) 2 2 1 1 ∷ none ∷ none ∷ none ∷ none ∷ none ∷ none ∷ [])
+          2 1 0)
+          ∷ changes 0
+          ∷ chooses true
+          -- "every other field, the last number and the named seats" as they were, and f
+          ∷ stands
+          (keeps
+          (seat-with 0 (seat 1 (pos 4096) (pos 0) (pos 4096) 2 1 3 3)
+          ∷ seat-with 1000 (seat 2 (pos 1000) (pos 1000) (pos 1000) 2 2 1 1)
+          ∷ none ∷ none ∷ none ∷ none ∷ none ∷ none ∷ [])
+          2 1 0)
+          ∷ stored 1024 hollow-spot
+          ∷ free 12
+          ∷ word 1 true 1 1 false
+          ∷ word 2 true 0 2 false
+          ∷ given (2 ∷ 1 ∷ []) 2
+          ∷ accepted true
+          ∷ job 1 (record { rules = baseRules; choice = Smallest; shape = twice; steps = 2; width = 3; height = 3; picture = spot })
+          ∷ lone (record { rules = baseRules; choice = Smallest; shape = twice; steps = 2; width = 3; height = 3; picture = spot })
+          (map calling (submit Smallest twice 2 3 3 spot ∷ tick ∷ tick ∷ []))
+          -- once is enough: 2, and nothing changes
+          ∷ changes 2
+          -- the turn goes on after seat 0, and the half-done job ends with the pixels that it would have had
+          ∷ ticks 2
+          ∷ ticks 1
+          ∷ collects 1 nines hollow-twice
+          ∷ word 1 false 2 0 true
+          ∷ free 14
+          ∷ [];
+    }
+
+-- a new job beside one from before: each has its own choice
+abbrev pub after-change : Worked
+after-change =
+    record {
+      from = opened baseRules sevens;
+      lines =
+          submits twice 2 3 3 spot 1
+          ∷ changes 0
+          ∷ submits-by Binomial twice 2 3 3 spot 2
+          ∷ job 2 (record { rules = choiceRules; choice = Binomial; shape = twice; steps = 2; width = 3; height = 3; picture = spot })
+          ∷ ticks 1
+          ∷ ticks 2
+          ∷ stored 1024 hollow-spot
+          ∷ stored 3072 binomial-spot
+          ∷ [];
+    }
+
+-- "one not in order by the old rule gets 2", and is left as it was; 100 steps are left of 1
+abbrev pub change-refused : Worked
+change-refused =
+    record {
+      from = placed (keeps (seat 1 (pos 0) (pos 0) (pos 0) 1 100 1 1 ∷ none ∷ none ∷ none ∷ none ∷ none ∷ none ∷ none ∷ []) 1 0 7) sevens;
+      lines =
+          changes 2
+          ∷ chooses false
+          ∷ stands (keeps (seat 1 (pos 0) (pos 0) (pos 0) 1 100 1 1 ∷ none ∷ none ∷ none ∷ none ∷ none ∷ none ∷ none ∷ []) 1 0 7)
+          ∷ [];
+    }
+
+-- ---- records by the new rules, of case e's shape over two steps, whose f lies from 1 to 4096, and of an empty seat
+abbrev pub with-seat : Slot → Service
+with-seat s = keeps (s ∷ none ∷ none ∷ none ∷ none ∷ none ∷ none ∷ none ∷ []) 1 0 7
+
+abbrev pub case-e : ℕ → Service
+case-e f = with-seat (seat-with f (seat 1 (pos 4097) (pos 0) (pos 4096) 2 2 1 1))
+
+abbrev pub new-in-order : Service → ℕ → Worked
+new-in-order r buffers = record { from = placed-by choiceRules r sevens; lines = free buffers ∷ withdraw-refused 0 7 ∷ stands r ∷ [] }
+
+abbrev pub new-not-in-order : Service → Worked
+new-not-in-order r =
+    record {
+      from = placed-by choiceRules r sevens;
+      lines =
+          submit-refused (Round nan) 1 1 1 (1 ∷ []) 2
+          ∷ called tick 2 [] []
+          ∷ collect-refused 0 (9 ∷ []) 2
+          ∷ withdraw-refused 0 2
+          ∷ counted 2 []
+          ∷ stands r
+          ∷ [];
+    }
+
+-- a tick goes by the seat's f, here by 512, which is that of neither choice: corners 512, sides 2 × 1536, centre 4 × 512 of 16384
+abbrev pub own-free-number : Worked
+own-free-number =
+    record {
+      from = placed-by choiceRules (with-seat (seat-with 512 (seat 1 (pos 2048) (pos 0) (pos 2048) 1 1 3 3))) (spot ++ replicate 16375 7);
+      lines = ticks 1 ∷ stored 1024 (50 ∷ 300 ∷ 50 ∷ 300 ∷ 200 ∷ 300 ∷ 50 ∷ 300 ∷ 50 ∷ 7 ∷ []) ∷ [];
+    }
+
+-- ---- the tables
 abbrev pub table : List Worked
 table =
     day
@@ -461,6 +636,38 @@ table =
     ∷ used-up
     ++ records
 
-pub worked : map (λ w. computed (w .from) (w .lines)) table ≡ map (λ w. w .lines) table
-unfolding computed firstFrom countOf everyPlace allZero filledFine slotFine inOrder usable freeBuffers submitChecks submitOf tickOf collectChecks collectOf withdrawOf freeCountOf after since jobOf held ticksOf numbers howMany withdrawnIn ticksIn allAccepted kernelWith kernelExists pixelAt entries rows iterate stepOf weightedAt inRange nearestUnits varianceInRange cosineInRange squareInRange directionInRange variancesFine directionFine covarianceXX covarianceXY covarianceYY add sub mul le
+-- that what is computed of each list is what its lines say
+abbrev pub Holds : List Worked → Type 0
+Holds lists = map (λ w. computed (w .from) (w .lines)) lists ≡ map (λ w. w .lines) lists
+
+pub worked : Holds table
+unfolding computed firstFrom countOf everyPlace allZero filledFine slotFine inOrder usable freeBuffers submitChecks submitOf tickOf collectChecks collectOf withdrawOf freeCountOf after since jobOf held ticksOf numbers howMany withdrawnIn ticksIn allAccepted kernelWith kernelExists freeFits pixelAt entries rows iterate stepOf weightedAt inRange nearestUnits varianceInRange cosineInRange squareInRange directionInRange variancesFine directionFine covarianceXX covarianceXY covarianceYY add sub mul le
 worked = refl
+
+pub worked-choices : Holds (choices ∷ [])
+unfolding computed firstFrom countOf everyPlace allZero filledFine slotFine inOrder usable freeBuffers submitChecks submitOf tickOf collectChecks collectOf withdrawOf freeCountOf after since jobOf held ticksOf numbers howMany withdrawnIn ticksIn allAccepted kernelWith kernelExists freeFits pixelAt entries rows iterate stepOf weightedAt inRange nearestUnits varianceInRange cosineInRange squareInRange directionInRange variancesFine directionFine covarianceXX covarianceXY covarianceYY add sub mul le
+worked-choices = refl
+
+pub worked-change : Holds (changed ∷ [])
+unfolding computed firstFrom countOf everyPlace allZero filledFine slotFine inOrder usable freeBuffers submitChecks submitOf tickOf collectChecks collectOf withdrawOf freeCountOf after since jobOf held ticksOf numbers howMany withdrawnIn ticksIn allAccepted kernelWith kernelExists freeFits pixelAt entries rows iterate stepOf weightedAt inRange nearestUnits varianceInRange cosineInRange squareInRange directionInRange variancesFine directionFine covarianceXX covarianceXY covarianceYY add sub mul le
+worked-change = refl
+
+pub worked-after-change : Holds (after-change ∷ [])
+unfolding computed firstFrom countOf everyPlace allZero filledFine slotFine inOrder usable freeBuffers submitChecks submitOf tickOf collectChecks collectOf withdrawOf freeCountOf after since jobOf held ticksOf numbers howMany withdrawnIn ticksIn allAccepted kernelWith kernelExists freeFits pixelAt entries rows iterate stepOf weightedAt inRange nearestUnits varianceInRange cosineInRange squareInRange directionInRange variancesFine directionFine covarianceXX covarianceXY covarianceYY add sub mul le
+worked-after-change = refl
+
+pub worked-refused-change : Holds (change-refused ∷ [])
+unfolding computed firstFrom countOf everyPlace allZero filledFine slotFine inOrder usable freeBuffers submitChecks submitOf tickOf collectChecks collectOf withdrawOf freeCountOf after since jobOf held ticksOf numbers howMany withdrawnIn ticksIn allAccepted kernelWith kernelExists freeFits pixelAt entries rows iterate stepOf weightedAt inRange nearestUnits varianceInRange cosineInRange squareInRange directionInRange variancesFine directionFine covarianceXX covarianceXY covarianceYY add sub mul le
+worked-refused-change = refl
+
+pub worked-own-free-number : Holds (own-free-number ∷ [])
+unfolding computed firstFrom countOf everyPlace allZero filledFine slotFine inOrder usable freeBuffers submitChecks submitOf tickOf collectChecks collectOf withdrawOf freeCountOf after since jobOf held ticksOf numbers howMany withdrawnIn ticksIn allAccepted kernelWith kernelExists freeFits pixelAt entries rows iterate stepOf weightedAt inRange nearestUnits varianceInRange cosineInRange squareInRange directionInRange variancesFine directionFine covarianceXX covarianceXY covarianceYY add sub mul le
+worked-own-free-number = refl
+
+pub worked-bounds : Holds (map (λ f. new-in-order (case-e f) 14) (1 ∷ 100 ∷ 4096 ∷ []) ++ map (λ f. new-not-in-order (case-e f)) (0 ∷ 4097 ∷ []))
+unfolding computed firstFrom countOf everyPlace allZero filledFine slotFine inOrder usable freeBuffers submitChecks submitOf tickOf collectChecks collectOf withdrawOf freeCountOf after since jobOf held ticksOf numbers howMany withdrawnIn ticksIn allAccepted kernelWith kernelExists freeFits pixelAt entries rows iterate stepOf weightedAt inRange nearestUnits varianceInRange cosineInRange squareInRange directionInRange variancesFine directionFine covarianceXX covarianceXY covarianceYY add sub mul le
+worked-bounds = refl
+
+pub worked-stale-free-number : Holds (new-in-order (with-seat none) 16 ∷ new-not-in-order (with-seat (seat-with 1 none)) ∷ [])
+unfolding computed firstFrom countOf everyPlace allZero filledFine slotFine inOrder usable freeBuffers submitChecks submitOf tickOf collectChecks collectOf withdrawOf freeCountOf after since jobOf held ticksOf numbers howMany withdrawnIn ticksIn allAccepted kernelWith kernelExists freeFits pixelAt entries rows iterate stepOf weightedAt inRange nearestUnits varianceInRange cosineInRange squareInRange directionInRange variancesFine directionFine covarianceXX covarianceXY covarianceYY add sub mul le
+worked-stale-free-number = refl

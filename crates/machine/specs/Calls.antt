@@ -5,14 +5,17 @@ use mathlib.Core.List.{List, [], _∷_}
 use Prim.Native.Nat.{ℕ, _+_, _-_, _*_, _^_}
 use lib.Dec.{leb, ltb, eqb}
 use lib.ListN.{length, set}
-use lib.IntN.{ℤ}
+use lib.IntN.{ℤ, pos}
 use Rattle.limits.specs.Limits.{stepsInRange, sidesInRange, fillsPicture, fitsBuffer}
 use Rattle.limits.specs.Errors.{Check, _otherwise_, firstRefusal}
 use Rattle.limits.specs.declared.Outcome.{Outcome}
 use Rattle.limits.specs.declared.Outcome.the-variants.{Accepted, Refused}
 use Rattle.limits.specs.declared.ErrorCode.the-variants.{RecordOutOfOrder, VarianceOutOfRange, NotADirection, StepsOutOfRange, SideOutOfRange, NoSuchJob, StepsAreLeft, WrongLength, TooManyPixels, NoKernel, NoFreeBuffers, NumbersUsedUp}
 use Rattle.kernel.specs.declared.Kernel.{Kernel}
-use Rattle.kernel.specs.Molecule.{unitsOf, kernelOf}
+use Rattle.kernel.specs.declared.Choice.{Choice}
+use Rattle.kernel.specs.declared.Choice.the-variants.{Smallest}
+use Rattle.kernel.specs.Molecule.{unitsOf, kernelOf, kernelWith}
+use Rattle.kernel.specs.Choice.{freeBy}
 use Rattle.kernel.specs.Existence.{kernelExists}
 use Rattle.covariance.specs.declared.Shape.{Shape}
 use Rattle.covariance.specs.Shapes.{variancesFine, directionFine, covarianceXX, covarianceXY, covarianceYY}
@@ -76,8 +79,17 @@ submitChecks rules r store shape k w h pixels =
 abbrev pub emptyPlace : Rules → Service → Found
 emptyPlace rules r = firstFrom isEmpty (r .slots) (rules .slotCount) (nextPlace (rules .slotCount) (r .filled)) (rules .slotCount)
 
-abbrev pub newSlot : ℕ → Shape → ℕ → ℕ → ℕ → Slot
-newSlot number shape k w h =
+-- the choice of a job, by the rules of its submit: the one that it names, and by rules without a choice the smallest, whatever stands
+-- in its place: "a job from before it has the smallest choice"
+abbrev pub choiceBy : Rules → Choice → Choice
+choiceBy rules choice = cond (rules .holdsChoice) choice Smallest
+
+-- f of a new job as its slot holds it: that of its choice, and nothing by rules without one
+abbrev pub freeHeld : Rules → Choice → Shape → ℕ → ℕ
+freeHeld rules choice shape k = cond (rules .holdsChoice) (freeBy choice (covarianceXX shape) (covarianceXY shape) (covarianceYY shape) k) 0
+
+abbrev pub newSlot : Rules → ℕ → Choice → Shape → ℕ → ℕ → ℕ → Slot
+newSlot rules number choice shape k w h =
     record {
       number = number;
       xx = covarianceXX shape;
@@ -87,17 +99,18 @@ newSlot number shape k w h =
       left = k;
       width = w;
       height = h;
+      free = freeHeld rules choice shape k;
     }
 
 -- "Submit fills [that seat], copies the picture to the start of buffer 2i, and gives the next number". After its checks there is an
 -- empty seat: the second case cannot occur (`submit-finds` of proofs/Finds).
-abbrev pub submitAt : Rules → Service → List ℕ → Shape → ℕ → ℕ → ℕ → List ℕ → Found → Result
-submitAt rules r store shape k w h pixels (At i) =
+abbrev pub submitAt : Rules → Service → List ℕ → Choice → Shape → ℕ → ℕ → ℕ → List ℕ → Found → Result
+submitAt rules r store choice shape k w h pixels (At i) =
     record {
       answer = A.Answer.Job (r .last + 1);
       service =
           record {
-            slots = set (r .slots) i (newSlot (r .last + 1) shape k w h);
+            slots = set (r .slots) i (newSlot rules (r .last + 1) choice shape k w h);
             last = r .last + 1;
             filled = i;
             served = r .served;
@@ -105,7 +118,7 @@ submitAt rules r store shape k w h pixels (At i) =
       store = put (bufferAfter rules i 0) pixels store;
       lent = pixels;
     }
-submitAt rules r store shape k w h pixels Nothing =
+submitAt rules r store choice shape k w h pixels Nothing =
     record { answer = A.Answer.Refused NoFreeBuffers; service = r; store = store; lent = pixels }
 
 -- a refused call: "a refusal answers its number alone; record, store and every lent buffer keep their contents"
@@ -114,14 +127,16 @@ unlessRefused Accepted r store lent result = result
 unlessRefused (Refused code) r store lent result =
     record { answer = A.Answer.Refused code; service = r; store = store; lent = lent }
 
-unfoldable pub submitOf : Rules → Service → List ℕ → Shape → ℕ → ℕ → ℕ → List ℕ → Result
-submitOf rules r store shape k w h pixels =
+unfoldable pub submitOf : Rules → Service → List ℕ → Choice → Shape → ℕ → ℕ → ℕ → List ℕ → Result
+submitOf rules r store choice shape k w h pixels =
     unlessRefused (submitChecks rules r store shape k w h pixels) r store pixels
-    (submitAt rules r store shape k w h pixels (emptyPlace rules r))
+    (submitAt rules r store choice shape k w h pixels (emptyPlace rules r))
 
 -- ---- tick
-abbrev pub kernelOfSlot : Slot → Kernel
-kernelOfSlot s = kernelOf (s .xx) (s .xy) (s .yy) (s .steps)
+-- the kernel of a job by what its slot holds: with the slot's f, and by rules without a choice with the smallest
+abbrev pub kernelOfSlot : Rules → Slot → Kernel
+kernelOfSlot rules s =
+    cond (rules .holdsChoice) (kernelWith (s .xx) (s .xy) (s .yy) (pos (s .free)) (s .steps)) (kernelOf (s .xx) (s .xy) (s .yy) (s .steps))
 
 -- a slot with so many steps left, and with one step less
 abbrev pub withLeft : Slot → ℕ → Slot
@@ -135,6 +150,7 @@ withLeft s left =
       left = left;
       width = s .width;
       height = s .height;
+      free = s .free;
     }
 
 abbrev pub steppedSlot : Slot → Slot
@@ -147,7 +163,7 @@ turnedAt r i left =
 
 -- "one step, from the buffer of the current picture to the seat's other one, w × h pixels only"
 abbrev pub nextImage : Rules → List ℕ → ℕ → Slot → List ℕ
-nextImage rules store i s = stepOf (kernelOfSlot s) (s .width) (s .height) (currentImage rules store i s)
+nextImage rules store i s = stepOf (kernelOfSlot rules s) (s .width) (s .height) (currentImage rules store i s)
 
 -- "counted cyclically from the one after the seat last served, the first seat with steps left"
 abbrev pub servedPlace : Rules → Service → Found
@@ -241,13 +257,13 @@ freeCountOf rules r = freeCountWith (countChecks rules r) (freeBuffers rules r)
 
 -- ---- all of them as one function
 pub data Call : Type 0 where
-  submit : Shape → ℕ → ℕ → ℕ → List ℕ → Call
+  submit : Choice → Shape → ℕ → ℕ → ℕ → List ℕ → Call
   tick : Call
   collect : ℕ → List ℕ → Call
   withdraw : ℕ → Call
 
 abbrev pub callOf : Rules → Service → List ℕ → Call → Result
-callOf rules r store (submit shape k w h pixels) = submitOf rules r store shape k w h pixels
+callOf rules r store (submit choice shape k w h pixels) = submitOf rules r store choice shape k w h pixels
 callOf rules r store tick = tickOf rules r store
 callOf rules r store (collect number lent) = collectOf rules r store number lent
 callOf rules r store (withdraw number) = withdrawOf rules r store number

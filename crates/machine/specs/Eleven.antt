@@ -12,6 +12,7 @@ use Rattle.limits.specs.declared.Outcome.the-variants as O
 use Rattle.limits.specs.declared.ErrorCode.the-variants.{VarianceOutOfRange, NotADirection, StepsOutOfRange, SideOutOfRange, WrongLength, TooManyPixels, NoKernel}
 use Rattle.kernel.specs.Molecule.{unitsOf}
 use Rattle.kernel.specs.Existence.{Weights}
+use Rattle.kernel.specs.declared.Choice.{Choice}
 use Rattle.covariance.specs.declared.Shape.{Shape}
 use Rattle.covariance.specs.Shapes.{variancesFine, directionFine, covarianceXX, covarianceXY, covarianceYY}
 use Rattle.machine.specs.declared.Service.{Service}
@@ -19,8 +20,8 @@ use Rattle.machine.specs.declared.Answer.the-variants.{Refused}
 use Rattle.machine.specs.Rules.{Rules}
 use Rattle.machine.specs.Order.{usable}
 use Rattle.machine.specs.Store.{storeLength}
-use Rattle.machine.specs.Calls.{Call, submit, submitOf}
-use Rattle.machine.specs.History.{opened, after}
+use Rattle.machine.specs.Calls.{submit, submitOf}
+use Rattle.machine.specs.History.{Entry, opened, after}
 use Rattle.machine.specs.Demand.{answerAt}
 
 -- the checks of a submit before 11 that look only at what the caller hands in: 3, 4, 5, 6, 9 and 10
@@ -39,9 +40,10 @@ pub record OnlyNoKernel (shape : Shape) (k w h : ℕ) (pixels : List ℕ) : Type
   pub earlier : firstRefusal (earlierChecks shape k w h pixels) ≡ O.Accepted
   pub no-weights : Weights (covarianceXX shape) (covarianceXY shape) (covarianceYY shape) (unitsOf k) → ⊥
 
--- by given rules, of any record and any store; and at the place after any list of calls from the opening on
+-- by given rules, of any record and any store; and at the place after any list from the opening on; by whichever choice, since kernels
+-- exist for the same shapes
 pub record ElevenExactly (rules : Rules) : Type 0 where
-  pub called : (r : Service) (store : List ℕ) (shape : Shape) (k w h : ℕ) (pixels : List ℕ)
-      → (submitOf rules r store shape k w h pixels .answer ≡ Refused NoKernel) ↔ ((usable rules r store ≡ true) × OnlyNoKernel shape k w h pixels)
-  pub listed : (store : List ℕ) → length store ≡ storeLength → (calls : List Call) (shape : Shape) (k w h : ℕ) (pixels : List ℕ)
-      → (answerAt (after (opened rules store) calls) (submit shape k w h pixels) ≡ Refused NoKernel) ↔ OnlyNoKernel shape k w h pixels
+  pub called : (r : Service) (store : List ℕ) (choice : Choice) (shape : Shape) (k w h : ℕ) (pixels : List ℕ)
+      → (submitOf rules r store choice shape k w h pixels .answer ≡ Refused NoKernel) ↔ ((usable rules r store ≡ true) × OnlyNoKernel shape k w h pixels)
+  pub listed : (store : List ℕ) → length store ≡ storeLength → (entries : List Entry) (choice : Choice) (shape : Shape) (k w h : ℕ) (pixels : List ℕ)
+      → (answerAt (after (opened rules store) entries) (submit choice shape k w h pixels) ≡ Refused NoKernel) ↔ OnlyNoKernel shape k w h pixels

@@ -7,18 +7,24 @@ use lib.Dec.{eqb}
 use lib.ListN.{length}
 use lib.IntN.{pos}
 use Rattle.covariance.specs.declared.Shape.{Shape}
-use Rattle.covariance.specs.Shapes.{kernelOfShape}
+use Rattle.covariance.specs.Shapes.{kernelOfShapeBy}
+use Rattle.limits.specs.declared.Outcome.{Outcome}
+use Rattle.limits.specs.declared.Outcome.the-variants as O
 use Rattle.kernel.specs.declared.Kernel.{Kernel}
+use Rattle.kernel.specs.declared.Choice.{Choice}
+use Rattle.kernel.specs.declared.Choice.the-variants.{Smallest}
 use Rattle.averaging.specs.Steps.{stepsOf, exactOf}
 use Rattle.machine.specs.declared.Service.{Service}
 use Rattle.machine.specs.declared.Answer.{Answer}
 use Rattle.machine.specs.declared.Answer.the-variants.{Job, Idle, Refused}
-use Rattle.machine.specs.Rules.{Rules}
+use Rattle.machine.specs.Rules.{Rules, baseRules, withChoice}
 use Rattle.machine.specs.Slots.{opening}
-use Rattle.machine.specs.Calls.{Call, submit, tick, collect, withdraw, callOf}
+use Rattle.machine.specs.Calls.{Call, submit, tick, collect, withdraw, callOf, choiceBy}
+use Rattle.machine.specs.Change.{changedOver, changeChecks}
 
--- a call of the list with its answer, and the picture that was lent to it as it left it
+-- a call of the list with the rules that it followed, its answer, and the picture that was lent to it as it left it
 pub record Event : Type 0 where
+  pub rules : Rules
   pub call : Call
   pub answer : Answer
   pub lent : List ℕ
@@ -37,6 +43,7 @@ opened rules store = record { rules = rules; service = opening rules; store = st
 abbrev pub eventOf : Place → Call → Event
 eventOf p c =
     record {
+      rules = p .rules;
       call = c;
       answer = callOf (p .rules) (p .service) (p .store) c .answer;
       lent = callOf (p .rules) (p .service) (p .store) c .lent;
@@ -52,15 +59,37 @@ next p c =
       history = eventOf p c ∷ p .history;
     }
 
--- the place after a list of calls
-unfoldable pub after : Place → List Call → Place
-after p [] = p
-after p (c ∷ cs) = after (next p c) cs
+-- ---- lists
+-- an entry of a list: a call, or the change-over. "from the opening on calls by the old rules, then the change-over, then calls by the
+-- new": it may stand anywhere, and where the rules have changed already it is refused with 2
+pub data Entry : Type 0 where
+  calling : Call → Entry
+  changing : Entry
 
--- the events of a list of calls from a place on, the latest first
-unfoldable pub since : Place → List Call → List Event
+-- the change-over passes the new record and the store on, and from there on calls follow the new rules; refused, it changes nothing.
+-- It is no call of a job, so the words below do not see it
+abbrev pub changedPlace : Outcome → Place → Place
+changedPlace O.Accepted p =
+    record { rules = withChoice (p .rules); service = changedOver (p .service); store = p .store; history = p .history }
+changedPlace (O.Refused code) p = p
+
+abbrev pub onward : Place → Entry → Place
+onward p (calling c) = next p c
+onward p changing = changedPlace (changeChecks (p .rules) (p .service)) p
+
+-- the place after a list
+unfoldable pub after : Place → List Entry → Place
+after p [] = p
+after p (e ∷ es) = after (onward p e) es
+
+abbrev pub eventsOf : Place → Entry → List Event
+eventsOf p (calling c) = eventOf p c ∷ []
+eventsOf p changing = []
+
+-- the events of a list from a place on, the latest first
+unfoldable pub since : Place → List Entry → List Event
 since p [] = []
-since p (c ∷ cs) = since (next p c) cs ++ (eventOf p c ∷ [])
+since p (e ∷ es) = since (onward p e) es ++ eventsOf p e
 
 -- ---- what an event is to the job with a number
 abbrev pub accepts : Answer → Bool
@@ -75,28 +104,28 @@ answersNumber (Refused code) n = false
 
 -- "A job is an accepted submit, named by the number it answered"
 abbrev pub startsBy : Call → Answer → ℕ → Bool
-startsBy (submit shape k w h pixels) a n = answersNumber a n
+startsBy (submit choice shape k w h pixels) a n = answersNumber a n
 startsBy tick a n = false
 startsBy (collect m lent) a n = false
 startsBy (withdraw m) a n = false
 
 -- a tick that answered its number
 abbrev pub servesBy : Call → Answer → ℕ → Bool
-servesBy (submit shape k w h pixels) a n = false
+servesBy (submit choice shape k w h pixels) a n = false
 servesBy tick a n = answersNumber a n
 servesBy (collect m lent) a n = false
 servesBy (withdraw m) a n = false
 
 -- an accepted withdraw of its number
 abbrev pub withdrawsBy : Call → Answer → ℕ → Bool
-withdrawsBy (submit shape k w h pixels) a n = false
+withdrawsBy (submit choice shape k w h pixels) a n = false
 withdrawsBy tick a n = false
 withdrawsBy (collect m lent) a n = false
 withdrawsBy (withdraw m) a n = eqb m n && accepts a
 
 -- an accepted collect or withdraw of its number
 abbrev pub endsBy : Call → Answer → ℕ → Bool
-endsBy (submit shape k w h pixels) a n = false
+endsBy (submit choice shape k w h pixels) a n = false
 endsBy tick a n = false
 endsBy (collect m lent) a n = eqb m n && accepts a
 endsBy (withdraw m) a n = eqb m n && accepts a
@@ -111,8 +140,11 @@ abbrev pub ends : Event → ℕ → Bool
 ends e n = endsBy (e .call) (e .answer) n
 
 -- ---- the words
--- "Its picture is the w × h pixels lent there; its kernel is that of its shape and its step count k"
+-- "Its picture is the w × h pixels lent there; its kernel is that of its shape and its step count k", by its choice; with the rules
+-- that its submit followed
 pub record Submitted : Type 0 where
+  pub rules : Rules
+  pub choice : Choice
   pub shape : Shape
   pub steps : ℕ
   pub width : ℕ
@@ -120,7 +152,7 @@ pub record Submitted : Type 0 where
   pub picture : List ℕ
 
 abbrev pub kernelOfJob : Submitted → Kernel
-kernelOfJob j = kernelOfShape (j .shape) (j .steps)
+kernelOfJob j = kernelOfShapeBy (j .choice) (j .shape) (j .steps)
 
 -- "Alone it gets its picture after k steps of its kernel, each rounded as above"
 abbrev pub aloneAfter : Submitted → ℕ → List ℕ
@@ -131,19 +163,21 @@ abbrev pub exactAfter : Submitted → ℕ → List ℕ
 exactAfter j n = exactOf (kernelOfJob j) (j .width) (j .height) n (j .picture)
 
 -- what a submit hands in, and of another call what does not matter
-abbrev pub submittedBy : Call → Submitted → Submitted
-submittedBy (submit shape k w h pixels) j = record { shape = shape; steps = k; width = w; height = h; picture = pixels }
-submittedBy tick j = j
-submittedBy (collect m lent) j = j
-submittedBy (withdraw m) j = j
+abbrev pub submittedBy : Rules → Call → Submitted → Submitted
+submittedBy rules (submit choice shape k w h pixels) j =
+    record { rules = rules; choice = choiceBy rules choice; shape = shape; steps = k; width = w; height = h; picture = pixels }
+submittedBy rules tick j = j
+submittedBy rules (collect m lent) j = j
+submittedBy rules (withdraw m) j = j
 
 -- a job of no steps, for a number that no submit answered
 abbrev pub noJob : Submitted
-noJob = record { shape = Shape.Matrix (pos 0) (pos 0) (pos 0); steps = 0; width = 0; height = 0; picture = [] }
+noJob =
+    record { rules = baseRules; choice = Smallest; shape = Shape.Matrix (pos 0) (pos 0) (pos 0); steps = 0; width = 0; height = 0; picture = [] }
 
 unfoldable pub jobOf : List Event → ℕ → Submitted
 jobOf [] n = noJob
-jobOf (e ∷ es) n = cond (starts e n) (submittedBy (e .call) noJob) (jobOf es n)
+jobOf (e ∷ es) n = cond (starts e n) (submittedBy (e .rules) (e .call) noJob) (jobOf es n)
 
 -- "It is held until a collect or withdraw of its number is accepted"
 unfoldable pub held : List Event → ℕ → Bool
@@ -165,9 +199,9 @@ finished es n = eqb (stepsLeft es n) 0
 
 -- the numbers that accepted submits answered, the latest first
 abbrev pub givenBy : Call → Answer → List ℕ → List ℕ
-givenBy (submit shape k w h pixels) (Job n) ns = n ∷ ns
-givenBy (submit shape k w h pixels) Idle ns = ns
-givenBy (submit shape k w h pixels) (Refused code) ns = ns
+givenBy (submit choice shape k w h pixels) (Job n) ns = n ∷ ns
+givenBy (submit choice shape k w h pixels) Idle ns = ns
+givenBy (submit choice shape k w h pixels) (Refused code) ns = ns
 givenBy tick a ns = ns
 givenBy (collect m lent) a ns = ns
 givenBy (withdraw m) a ns = ns
@@ -193,13 +227,17 @@ unfoldable pub withdrawnIn : List Event → ℕ → Bool
 withdrawnIn [] n = false
 withdrawnIn (e ∷ es) n = withdrawsBy (e .call) (e .answer) n || withdrawnIn es n
 
--- how many ticks stand in a list of calls
+-- how many ticks stand in a list
 abbrev pub oneForTick : Call → ℕ
-oneForTick (submit shape k w h pixels) = 0
+oneForTick (submit choice shape k w h pixels) = 0
 oneForTick tick = 1
 oneForTick (collect m lent) = 0
 oneForTick (withdraw m) = 0
 
-unfoldable pub ticksIn : List Call → ℕ
+abbrev pub ticksOfEntry : Entry → ℕ
+ticksOfEntry (calling c) = oneForTick c
+ticksOfEntry changing = 0
+
+unfoldable pub ticksIn : List Entry → ℕ
 ticksIn [] = 0
-ticksIn (c ∷ cs) = oneForTick c + ticksIn cs
+ticksIn (e ∷ es) = ticksOfEntry e + ticksIn es

@@ -5,6 +5,8 @@ pub mod Slots
 pub mod Store
 pub mod Order
 pub mod Calls
+pub mod Change
+pub mod Commutes
 pub mod History
 pub mod Demand
 pub mod Numbers

@@ -9,18 +9,19 @@ use lib.ListN.{length}
 use Rattle.limits.specs.Errors.{outcomeNumber}
 use Rattle.limits.specs.declared.Outcome.{Outcome}
 use Rattle.limits.specs.declared.Outcome.the-variants as O
+use Rattle.kernel.specs.declared.Choice.{Choice}
 use Rattle.covariance.specs.declared.Shape.{Shape}
 use Rattle.machine.specs.declared.Service.{Service}
 use Rattle.machine.specs.declared.Answer.{Answer}
 use Rattle.machine.specs.declared.Found.{Found}
 use Rattle.machine.specs.declared.Found.the-variants.{At, Nothing}
 use Rattle.machine.specs.Answers.{answerNumber, answerValues, countNumber, countValues}
-use Rattle.machine.specs.Rules.{Rules, baseRules}
+use Rattle.machine.specs.Rules.{Rules}
 use Rattle.machine.specs.Slots.{slotAt}
 use Rattle.machine.specs.Store.{storeLength}
-use Rattle.machine.specs.Calls.{Call, submit, tick, collect, withdraw, freeBuffers, submitChecks, submitOf, tickChecks, servedPlace, tickOf, collectChecks, collectOf, withdrawChecks, withdrawOf, countChecks, freeCountOf}
-use Rattle.machine.specs.History.{Place, opened, after, since, held, stepsLeft, finished, jobCount, heldCount, withdrawnIn, ticksIn}
-use Rattle.machine.specs.Demand.{answerAt, submitOutcome, withdrawOutcome, collectOutcome}
+use Rattle.machine.specs.Calls.{submit, tick, collect, withdraw, freeBuffers, submitChecks, submitOf, tickChecks, servedPlace, tickOf, collectChecks, collectOf, withdrawChecks, withdrawOf, countChecks, freeCountOf}
+use Rattle.machine.specs.History.{Place, Entry, opened, after, since, held, stepsLeft, finished, jobCount, heldCount, withdrawnIn, ticksIn}
+use Rattle.machine.specs.Demand.{Opening, answerAt, submitOutcome, withdrawOutcome, collectOutcome}
 
 -- the values of a call that gives one number where it is not refused: "a refusal answers its number alone"
 abbrev pub valuesUnless : Outcome → ℕ → List ℕ
@@ -40,8 +41,8 @@ tickValues r O.Accepted Nothing = []
 tickValues r (O.Refused code) f = []
 
 pub record CallsInNumbers (rules : Rules) (r : Service) (store : List ℕ) : Type 0 where
-  pub submits : (shape : Shape) (k w h : ℕ) (pixels : List ℕ)
-      → AnswerIs (submitOf rules r store shape k w h pixels .answer) (submitChecks rules r store shape k w h pixels) (r .last + 1)
+  pub submits : (choice : Choice) (shape : Shape) (k w h : ℕ) (pixels : List ℕ)
+      → AnswerIs (submitOf rules r store choice shape k w h pixels .answer) (submitChecks rules r store shape k w h pixels) (r .last + 1)
   pub ticks : answerNumber (tickOf rules r store .answer) ≡ outcomeNumber (tickChecks rules r store)
   pub ticked : answerValues (tickOf rules r store .answer) ≡ tickValues r (tickChecks rules r store) (servedPlace rules r)
   pub collects : (n : ℕ) (lent : List ℕ) → AnswerIs (collectOf rules r store n lent .answer) (collectChecks rules r store n lent) n
@@ -53,8 +54,8 @@ pub record CallsInNumbers (rules : Rules) (r : Service) (store : List ℕ) : Typ
 -- by REFERENCE's rules, whose numbers stand here as it gives them
 pub record InNumbers (p : Place) : Type 0 where
   -- a submit answers 0 and the next number, or the refusal's number
-  pub submits : (shape : Shape) (k w h : ℕ) (pixels : List ℕ)
-      → AnswerIs (answerAt p (submit shape k w h pixels)) (submitOutcome baseRules (p .history) shape k w h pixels) (jobCount (p .history) + 1)
+  pub submits : (choice : Choice) (shape : Shape) (k w h : ℕ) (pixels : List ℕ)
+      → AnswerIs (answerAt p (submit choice shape k w h pixels)) (submitOutcome (p .rules) (p .history) shape k w h pixels) (jobCount (p .history) + 1)
   -- a collect and a withdraw answer 0 and the job's number, or the refusal's number
   pub collects : (n : ℕ) (lent : List ℕ) → AnswerIs (answerAt p (collect n lent)) (collectOutcome (p .history) n lent) n
   pub withdraws : (n : ℕ) → AnswerIs (answerAt p (withdraw n)) (withdrawOutcome (p .history) n) n
@@ -64,13 +65,15 @@ pub record InNumbers (p : Place) : Type 0 where
       ⊎ ((n : ℕ) × (answerValues (answerAt p tick) ≡ n ∷ []) × (held (p .history) n ≡ true) × (0 < stepsLeft (p .history) n))
   pub idle : (answerValues (answerAt p tick) ≡ []) ↔ ((n : ℕ) → held (p .history) n ≡ true → finished (p .history) n ≡ true)
   -- the wait: 8 ticks for each step left
-  pub waits : (n : ℕ) (calls : List Call) → held (p .history) n ≡ true → ticksIn calls ≡ 8 * stepsLeft (p .history) n
-      → (finished (after p calls .history) n ≡ true) ⊎ (withdrawnIn (since p calls) n ≡ true)
+  pub waits : (n : ℕ) (entries : List Entry) → held (p .history) n ≡ true → ticksIn entries ≡ 8 * stepsLeft (p .history) n
+      → (finished (after p entries .history) n ≡ true) ⊎ (withdrawnIn (since p entries) n ≡ true)
   pub at-most-eight : heldCount (p .history) ≤ 8
   -- nor is the free count refused: with 2 for each job held it makes 16
-  pub counts : countNumber (freeCountOf baseRules (p .service)) ≡ 0
-  pub counted : (free : ℕ) × (countValues (freeCountOf baseRules (p .service)) ≡ free ∷ []) × (free + 2 * heldCount (p .history) ≡ 16)
+  pub counts : countNumber (freeCountOf (p .rules) (p .service)) ≡ 0
+  pub counted : (free : ℕ) × (countValues (freeCountOf (p .rules) (p .service)) ≡ free ∷ []) × (free + 2 * heldCount (p .history) ≡ 16)
 
--- at the place after any list of calls from the opening on
+-- at the place after any list from an opening by the old rules or the new on
 abbrev pub Demand3InNumbers : Type 0
-Demand3InNumbers = (store : List ℕ) → length store ≡ storeLength → (calls : List Call) → InNumbers (after (opened baseRules store) calls)
+Demand3InNumbers =
+    (rules : Rules) → Opening rules → (store : List ℕ) → length store ≡ storeLength → (entries : List Entry)
+    → InNumbers (after (opened rules store) entries)

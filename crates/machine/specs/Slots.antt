@@ -17,7 +17,7 @@ slotCount = currentRules .slotCount
 
 -- "each empty seat is all zero"
 abbrev pub emptySlot : Slot
-emptySlot = record { number = 0; xx = pos 0; xy = pos 0; yy = pos 0; steps = 0; left = 0; width = 0; height = 0 }
+emptySlot = record { number = 0; xx = pos 0; xy = pos 0; yy = pos 0; steps = 0; left = 0; width = 0; height = 0; free = 0 }
 
 abbrev pub slotAt : Service → ℕ → Slot
 slotAt s i = getD (s .slots) i emptySlot

@@ -10,8 +10,8 @@ use Rattle.machine.specs.declared.Answer.the-variants.{Job}
 use Rattle.machine.specs.Rules.{Rules}
 use Rattle.machine.specs.Slots.{slotAt}
 use Rattle.machine.specs.Store.{storeLength, Workable, currentImage}
-use Rattle.machine.specs.Calls.{Call, collect, tickOf, steppedSlot}
-use Rattle.machine.specs.History.{Place, opened, after, Submitted, jobOf}
+use Rattle.machine.specs.Calls.{collect, tickOf, steppedSlot}
+use Rattle.machine.specs.History.{Place, Entry, opened, after, Submitted, jobOf}
 use Rattle.machine.specs.Demand.{answerAt, handedOver}
 
 -- from the picture that slot i had before a tick to the one that it has after a step no local maximum rises and no local minimum falls
@@ -20,19 +20,19 @@ TickEnhancesNone rules r store i =
     NonEnhancement 1 (slotAt r i .width) (slotAt r i .height) (currentImage rules store i (slotAt r i))
     (currentImage rules (tickOf rules r store .store) i (steppedSlot (slotAt r i)))
 
--- an accepted collect in a list of calls from an opening on, by whichever rules a service can run by
+-- an accepted collect in a list from an opening on, by whichever rules a service can run by
 pub record Collected : Type 0 where
   pub rules : Rules
   pub store : List ℕ
-  pub calls : List Call
+  pub entries : List Entry
   pub number : ℕ
   pub lent : List ℕ
   pub workable : Workable rules
   pub long : length store ≡ storeLength
-  pub accepted : answerAt (after (opened rules store) calls) (collect number lent) ≡ Job number
+  pub accepted : answerAt (after (opened rules store) entries) (collect number lent) ≡ Job number
 
 abbrev pub placeCollected : Collected → Place
-placeCollected c = after (opened (c .rules) (c .store)) (c .calls)
+placeCollected c = after (opened (c .rules) (c .store)) (c .entries)
 
 -- the job as it was submitted, and the picture that it is handed over
 abbrev pub jobCollected : Collected → Submitted

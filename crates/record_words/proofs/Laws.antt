@@ -1,10 +1,9 @@
--- Words within their fields, signed numbers and their two's complement, and slots written one by one: of as many slots as the record
--- of the running calls has. Assumes nothing.
-use mathlib.Core.Path.{_≡_, refl, sym, _∙_, ap}
+-- Words within their fields, signed numbers and their two's complement, and slots written one by one. Assumes nothing.
+use mathlib.Core.Path.{_≡_, refl, sym, _∙_, ap, subst}
 use mathlib.Core.Bool.{Bool, true, false, _&&_, cond, true≢false}
-use mathlib.Core.List.{List}
+use mathlib.Core.List.{List, [], _∷_}
 use Prim.Native.Nat.{ℕ, zero, suc, _+_, _-_, _*_, _%_, _^_, _<_, _≤_}
-use native.Mathlib.Nat.{mul-add-mod-self-left, mod-eq-of-lt}
+use native.Mathlib.Nat.{add-assoc, le-trans, le-add-right, mul-add-mod-self-left, mod-eq-of-lt}
 use native.Mathlib.Numerals.{add-one}
 use native.Mathlib.Omega.{arith}
 use borrow.Author.Tests.{eqb-true, ltb-true, le-ltb, ne-eqb}
@@ -16,7 +15,9 @@ use mir.Syntax.{w32, w64}
 use mir.Val.{Fits, SFits, toZ, ofZ}
 use mir.ValLaws.{toZ-pos, toZ-ofZ}
 use Rattle.limits.proofs.Laws.{both-true}
+use Rattle.machine.specs.declared.Slot.{Slot}
 use Rattle.machine.specs.declared.Service.{Service}
+use Rattle.machine.specs.Rules.{Rules, currentRules}
 use Rattle.machine.proofs.Counts.{every-more, every-each}
 use Rattle.machine.proofs.Parts.{length-put}
 use Rattle.machine.specs.Slots.{slotCount, slotAt}
@@ -24,51 +25,58 @@ use Rattle.record_words.specs.Words.{wordCount, slotWords, wordPlace, wo
 
 -- ---- words within their fields
 -- a test after others, one by one or joined first
-joined : (f a b c d e g h : Bool) → ((((((((f && true) && a) && b) && c) && d) && e) && g) && h) ≡ (f && (a && (b && (c && (d && (e && (g && h)))))))
-joined false a b c d e g h = refl
-joined true false b c d e g h = refl
-joined true true false c d e g h = refl
-joined true true true false d e g h = refl
-joined true true true true false e g h = refl
-joined true true true true true false g h = refl
-joined true true true true true true g h = refl
+joined : (f a b c d e g h i : Bool) → (((((((((f && true) && a) && b) && c) && d) && e) && g) && h) && i) ≡ (f && (a && (b && (c && (d && (e && (g && (h && i))))))))
+joined false a b c d e g h i = refl
+joined true false b c d e g h i = refl
+joined true true false c d e g h i = refl
+joined true true true false d e g h i = refl
+joined true true true true false e g h i = refl
+joined true true true true true false g h i = refl
+joined true true true true true true false h i = refl
+joined true true true true true true true h i = refl
 
 joined-two : (f a b : Bool) → (((f && true) && a) && b) ≡ (f && (a && b))
 joined-two false a b = refl
 joined-two true a b = refl
 
--- the words of one slot more, and the last three
-module _ (words : List ℕ) where
-  fit-next : (n j : ℕ) → wordsFit words (slotWords * n + (j + 1)) ≡ (wordsFit words (slotWords * n + j) && cond (eqb (j % slotWords) 0) true (ltb (wordAt words n j) (2 ^ 32)))
+-- one word more, by any rules
+module _ (rules : Rules) (words : List ℕ) where
+  pub fit-next : (n j : ℕ) → wordsFit rules words (slotWords rules * n + (j + 1)) ≡ (wordsFit rules words (slotWords rules * n + j) && cond (eqb (j % slotWords rules) 0) true (ltb (wordAt rules words n j) (2 ^ 32)))
   fit-next n j =
-      let e : slotWords * n + (j + 1) ≡ slotWords * n + j + 1 = omega arith in
-      rw e (every-more (λ i. wordFits i (getD words i 0)) (slotWords * n + j) ∙ rw (mul-add-mod-self-left slotWords n j))
+      ap (wordsFit rules words) (sym (add-assoc (slotWords rules * n) j 1))
+      ∙ every-more (λ i. wordFits rules i (getD words i 0)) (slotWords rules * n + j)
+      ∙ rw (mul-add-mod-self-left (slotWords rules) n j)
 
-  pub fit-slot : (n : ℕ) → wordsFit words (slotWords * (n + 1)) ≡ (wordsFit words (slotWords * n) && slotFits words n)
+-- the words of one slot more, and the last three, by the rules of the running calls
+module _ (words : List ℕ) where
+  pub fit-slot : (n : ℕ) → wordsFit currentRules words (slotWords currentRules * (n + 1)) ≡ (wordsFit currentRules words (slotWords currentRules * n) && slotFits words n)
   fit-slot n =
-      let e : slotWords * (n + 1) ≡ slotWords * n + 8 = omega arith in
-      let z : slotWords * n + 0 ≡ slotWords * n = omega arith in
-      rw (e, fit-next n 7, fit-next n 6, fit-next n 5, fit-next n 4, fit-next n 3, fit-next n 2, fit-next n 1, fit-next n 0, z)
-      (joined (wordsFit words (slotWords * n)) (ltb (wordAt words n 1) (2 ^ 32)) (ltb (wordAt words n 2) (2 ^ 32)) (ltb (wordAt words n 3) (2 ^ 32)) (ltb (wordAt words n 4) (2 ^ 32)) (ltb (wordAt words n 5) (2 ^ 32)) (ltb (wordAt words n 6) (2 ^ 32)) (ltb (wordAt words n 7) (2 ^ 32)))
+      let next = fit-next currentRules words n in
+      let e : 9 * (n + 1) ≡ 9 * n + 9 = omega arith in
+      let z : 9 * n + 0 ≡ 9 * n = omega arith in
+      rw (e, next 8, next 7, next 6, next 5, next 4, next 3, next 2, next 1, next 0, z)
+      (joined (wordsFit currentRules words (9 * n)) (ltb (wordAt currentRules words n 1) (2 ^ 32)) (ltb (wordAt currentRules words n 2) (2 ^ 32)) (ltb (wordAt currentRules words n 3) (2 ^ 32)) (ltb (wordAt currentRules words n 4) (2 ^ 32)) (ltb (wordAt currentRules words n 5) (2 ^ 32)) (ltb (wordAt currentRules words n 6) (2 ^ 32)) (ltb (wordAt currentRules words n 7) (2 ^ 32)) (ltb (wordAt currentRules words n 8) (2 ^ 32)))
 
-  pub fit-all : wordsFit words wordCount ≡ (wordsFit words (slotWords * slotCount) && (ltb (wordAt words slotCount 1) (2 ^ 32) && ltb (wordAt words slotCount 2) (2 ^ 32)))
+  pub fit-all : wordsFit currentRules words (wordCount currentRules) ≡ (wordsFit currentRules words (slotWords currentRules * slotCount) && (ltb (wordAt currentRules words slotCount 1) (2 ^ 32) && ltb (wordAt currentRules words slotCount 2) (2 ^ 32)))
   fit-all =
-      rw (fit-next slotCount 2, fit-next slotCount 1, fit-next slotCount 0)
-      (joined-two (wordsFit words (slotWords * slotCount)) (ltb (wordAt words slotCount 1) (2 ^ 32)) (ltb (wordAt words slotCount 2) (2 ^ 32)))
+      let next = fit-next currentRules words slotCount in
+      rw (next 2, next 1, next 0)
+      (joined-two (wordsFit currentRules words (slotWords currentRules * slotCount)) (ltb (wordAt currentRules words slotCount 1) (2 ^ 32)) (ltb (wordAt currentRules words slotCount 2) (2 ^ 32)))
 
-module _ (words : List ℕ) (fit : fieldsFit words ≡ true) where
-  pub fit-length : length words ≡ wordCount
+-- what words that hold a record are, by any rules
+module _ (rules : Rules) (words : List ℕ) (fit : fieldsFit rules words ≡ true) where
+  pub fit-length : length words ≡ wordCount rules
   unfolding fieldsFit
-  fit-length = eqb-true (length words) wordCount (both-true (eqb (length words) wordCount) (wordsFit words wordCount) fit .0)
+  fit-length = eqb-true (length words) (wordCount rules) (both-true (eqb (length words) (wordCount rules)) (wordsFit rules words (wordCount rules)) fit .0)
 
-  pub fit-narrow : (place field : ℕ) → 1 ≤ field → field < slotWords → wordPlace place field < wordCount → wordAt words place field < 2 ^ 32
+  pub fit-narrow : (place field : ℕ) → 1 ≤ field → field < slotWords rules → wordPlace rules place field < wordCount rules → wordAt rules words place field < 2 ^ 32
   unfolding fieldsFit
   fit-narrow place field l h p =
-      let w = every-each (λ i. wordFits i (getD words i 0)) wordCount (wordPlace place field) p (both-true (eqb (length words) wordCount) (wordsFit words wordCount) fit .1) in
-      let m : wordPlace place field % slotWords ≡ field = mul-add-mod-self-left slotWords place field ∙ mod-eq-of-lt h in
-      let n : eqb (wordPlace place field % slotWords) 0 ≡ false =
-      ne-eqb (wordPlace place field % slotWords) 0 (λ (e : wordPlace place field % slotWords ≡ 0). let z : field ≡ 0 = sym m ∙ e in omega arith) in
-      ltb-true (wordAt words place field) (2 ^ 32) (rw n at w)
+      let w = every-each (λ i. wordFits rules i (getD words i 0)) (wordCount rules) (wordPlace rules place field) p (both-true (eqb (length words) (wordCount rules)) (wordsFit rules words (wordCount rules)) fit .1) in
+      let m : wordPlace rules place field % slotWords rules ≡ field = mul-add-mod-self-left (slotWords rules) place field ∙ mod-eq-of-lt h in
+      let n : eqb (wordPlace rules place field % slotWords rules) 0 ≡ false =
+      ne-eqb (wordPlace rules place field % slotWords rules) 0 (λ (e : wordPlace rules place field % slotWords rules ≡ 0). let z : field ≡ 0 = sym m ∙ e in omega arith) in
+      ltb-true (wordAt rules words place field) (2 ^ 32) (rw n at w)
 
 -- ---- signed numbers
 minus-one : (m : ℕ) → negsuc 0 -ℤ pos m ≡ negsuc m
@@ -125,18 +133,34 @@ module _ (v : ℤ) (h : SFits w32 v) where
     pub read-back : toZ w32 (ofZ w32 (negsuc 0 -ℤ toZ w32 (ofZ w32 v))) ≡ pos (mag v)
     read-back = ap (λ z. toZ w32 (ofZ w32 z)) counted-down ∙ toZ-ofZ w32 (pos (mag v)) mag-signed
 
--- ---- the slots written one by one
-pub slots-written-none : (r : Service) (words : List ℕ) → withSlots r 0 words ≡ words
-unfolding withSlots
-slots-written-none r words = refl
+-- ---- the slots written one by one, by any rules
+-- a slot has as many words as the rules say
+pub slot-length : (rules : Rules) (s : Slot) → length (wordsOfSlot rules s) ≡ slotWords rules
+slot-length rules s = go (rules .holdsChoice)
+  where
+    go : (c : Bool) → length (0 ∷ 0 ∷ 0 ∷ 0 ∷ 0 ∷ 0 ∷ 0 ∷ 0 ∷ cond c (s .free ∷ []) []) ≡ cond c 9 8
+    go true = refl
+    go false = refl
 
-pub slots-written-more : (r : Service) (n : ℕ) (words : List ℕ) → withSlots r (n + 1) words ≡ withSlot n (slotAt r n) (withSlots r n words)
-unfolding withSlots
-slots-written-more r n words = rw (add-one n)
+-- so the words of a slot end where the next begins
+pub slot-end : (c : Bool) (n : ℕ) → cond c 9 8 * n + cond c 9 8 ≡ cond c 9 8 * (n + 1)
+slot-end true n = omega arith
+slot-end false n = omega arith
 
-pub slots-written-length : (r : Service) (n : ℕ) (words : List ℕ) → slotWords * n ≤ length words → length (withSlots r n words) ≡ length words
-unfolding withSlots
-slots-written-length r zero words h = refl
-slots-written-length r (suc n) words h =
-    let before : length (withSlots r n words) ≡ length words = slots-written-length r n words (omega arith) in
-    length-put (slotWords * n) (wordsOfSlot (slotAt r n)) (withSlots r n words) (omega (arith, before)) ∙ before
+module _ (rules : Rules) (r : Service) where
+  pub slots-written-none : (words : List ℕ) → withSlots rules r 0 words ≡ words
+  unfolding withSlots
+  slots-written-none words = refl
+
+  pub slots-written-more : (n : ℕ) (words : List ℕ) → withSlots rules r (n + 1) words ≡ withSlot rules n (slotAt r n) (withSlots rules r n words)
+  unfolding withSlots
+  slots-written-more n words = rw (add-one n)
+
+  pub slots-written-length : (n : ℕ) (words : List ℕ) → slotWords rules * n ≤ length words → length (withSlots rules r n words) ≡ length words
+  unfolding withSlots
+  slots-written-length zero words h = refl
+  slots-written-length (suc n) words h =
+      let long = slot-length rules (slotAt r n) in
+      let end : slotWords rules * n + slotWords rules ≤ length words = subst (λ (k : ℕ). k ≤ length words) (ap (λ (k : ℕ). slotWords rules * k) (sym (add-one n)) ∙ sym (slot-end (rules .holdsChoice) n)) h in
+      let before : length (withSlots rules r n words) ≡ length words = slots-written-length n words (le-trans (le-add-right (slotWords rules * n) (slotWords rules)) end) in
+      length-put (slotWords rules * n) (wordsOfSlot rules (slotAt r n)) (withSlots rules r n words) (rw (long, before) end) ∙ before

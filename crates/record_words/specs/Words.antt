@@ -1,87 +1,91 @@
--- The service record as 67 words of 64 bits: for each of the eight slots its number, xx, xy, yy, steps, steps left, width and
--- height; then the last number given, the slot last filled and the slot last served. Each word but the job numbers, which stand
--- at the multiples of 8, holds 32 bits; a signed number stands as its two's complement in 32 bits. Definitions only.
+-- The service record as words of 64 bits: for each of the slots its number, xx, xy, yy, steps, steps left, width and height, and f by rules
+-- with a choice; then the last number given, the slot last filled and the slot last served. So 75 words by the rules that the calls of
+-- this library run by, and 67 by the base rules, as the change-over takes them. Each word but the job numbers, which stand at the multiples of
+-- a slot's words, and the last number holds 32 bits; a signed number stands as its two's complement in 32 bits. Definitions only.
 use mathlib.Core.Bool.{Bool, true, _&&_, cond}
 use mathlib.Core.List.{List, [], _∷_}
 use Prim.Native.Nat.{ℕ, zero, suc, _+_, _*_, _%_, _^_}
 use lib.Dec.{eqb, ltb}
-use lib.ListN.{length, getD, set}
+use lib.ListN.{length, getD, set, replicate}
 use mir.Syntax.{w32}
 use mir.Val.{toZ, ofZ}
 use Rattle.image.specs.Image.{entries}
 use Rattle.machine.specs.declared.Slot.{Slot}
 use Rattle.machine.specs.declared.Service.{Service}
-use Rattle.machine.specs.Slots.{slotCount, slotAt, everyPlace}
-use Rattle.machine.specs.Store.{put}
+use Rattle.machine.specs.Rules.{Rules, baseRules, currentRules}
+use Rattle.machine.specs.Slots.{slotAt, everyPlace}
+use Rattle.machine.specs.Store.{part, put}
 
 -- the words of one slot
-abbrev pub slotWords : ℕ
-slotWords = 8
+abbrev pub slotWords : Rules → ℕ
+slotWords rules = cond (rules .holdsChoice) 9 8
 
--- 67: those of the slots, and three
-abbrev pub wordCount : ℕ
-wordCount = slotWords * slotCount + 3
+-- those of the slots, and three
+abbrev pub wordCount : Rules → ℕ
+wordCount rules = slotWords rules * rules .slotCount + 3
 
 -- whether a word is within its field
-abbrev pub wordFits : ℕ → ℕ → Bool
-wordFits i word = cond (eqb (i % slotWords) 0) true (ltb word (2 ^ 32))
+abbrev pub wordFits : Rules → ℕ → ℕ → Bool
+wordFits rules i word = cond (eqb (i % slotWords rules) 0) true (ltb word (2 ^ 32))
 
 -- whether each of the first n is
-abbrev pub wordsFit : List ℕ → ℕ → Bool
-wordsFit words n = everyPlace (λ i. wordFits i (getD words i 0)) n
+abbrev pub wordsFit : Rules → List ℕ → ℕ → Bool
+wordsFit rules words n = everyPlace (λ i. wordFits rules i (getD words i 0)) n
 
 -- words that are a record, in order or not
-unfoldable pub fieldsFit : List ℕ → Bool
-fieldsFit words = eqb (length words) wordCount && wordsFit words wordCount
+unfoldable pub fieldsFit : Rules → List ℕ → Bool
+fieldsFit rules words = eqb (length words) (wordCount rules) && wordsFit rules words (wordCount rules)
 
 -- the place of a field of a slot, and of the three last words, which follow as those of one slot more would
-abbrev pub wordPlace : ℕ → ℕ → ℕ
-wordPlace place field = slotWords * place + field
+abbrev pub wordPlace : Rules → ℕ → ℕ → ℕ
+wordPlace rules place field = slotWords rules * place + field
 
-abbrev pub wordAt : List ℕ → ℕ → ℕ → ℕ
-wordAt words place field = getD words (wordPlace place field) 0
+abbrev pub wordAt : Rules → List ℕ → ℕ → ℕ → ℕ
+wordAt rules words place field = getD words (wordPlace rules place field) 0
 
--- whether the words of a slot are within their fields: all but the job number have 32 bits
+-- whether the words of a slot are within their fields, as the calls of this library have them: all but the job number have 32 bits
 abbrev pub slotFits : List ℕ → ℕ → Bool
 slotFits words place =
-    ltb (wordAt words place 1) (2 ^ 32)
-    && (ltb (wordAt words place 2) (2 ^ 32)
-    && (ltb (wordAt words place 3) (2 ^ 32)
-    && (ltb (wordAt words place 4) (2 ^ 32)
-    && (ltb (wordAt words place 5) (2 ^ 32)
-    && (ltb (wordAt words place 6) (2 ^ 32)
-    && ltb (wordAt words place 7) (2 ^ 32))))))
+    ltb (wordAt currentRules words place 1) (2 ^ 32)
+    && (ltb (wordAt currentRules words place 2) (2 ^ 32)
+    && (ltb (wordAt currentRules words place 3) (2 ^ 32)
+    && (ltb (wordAt currentRules words place 4) (2 ^ 32)
+    && (ltb (wordAt currentRules words place 5) (2 ^ 32)
+    && (ltb (wordAt currentRules words place 6) (2 ^ 32)
+    && (ltb (wordAt currentRules words place 7) (2 ^ 32)
+    && ltb (wordAt currentRules words place 8) (2 ^ 32)))))))
 
-unfoldable pub slotOf : List ℕ → ℕ → Slot
-slotOf words place =
+unfoldable pub slotOf : Rules → List ℕ → ℕ → Slot
+slotOf rules words place =
     record {
-      number = wordAt words place 0;
-      xx = toZ w32 (wordAt words place 1);
-      xy = toZ w32 (wordAt words place 2);
-      yy = toZ w32 (wordAt words place 3);
-      steps = wordAt words place 4;
-      left = wordAt words place 5;
-      width = wordAt words place 6;
-      height = wordAt words place 7;
+      number = wordAt rules words place 0;
+      xx = toZ w32 (wordAt rules words place 1);
+      xy = toZ w32 (wordAt rules words place 2);
+      yy = toZ w32 (wordAt rules words place 3);
+      steps = wordAt rules words place 4;
+      left = wordAt rules words place 5;
+      width = wordAt rules words place 6;
+      height = wordAt rules words place 7;
+      free = cond (rules .holdsChoice) (wordAt rules words place 8) 0;
     }
 
 -- the slots that the words hold
-abbrev pub slotsOf : List ℕ → List Slot
-slotsOf words = entries slotCount (slotOf words)
+abbrev pub slotsOf : Rules → List ℕ → List Slot
+slotsOf rules words = entries (rules .slotCount) (slotOf rules words)
 
 -- the record that the words hold
-unfoldable pub serviceOf : List ℕ → Service
-serviceOf words =
+unfoldable pub serviceOf : Rules → List ℕ → Service
+serviceOf rules words =
     record {
-      slots = slotsOf words;
-      last = wordAt words slotCount 0;
-      filled = wordAt words slotCount 1;
-      served = wordAt words slotCount 2;
+      slots = slotsOf rules words;
+      last = wordAt rules words (rules .slotCount) 0;
+      filled = wordAt rules words (rules .slotCount) 1;
+      served = wordAt rules words (rules .slotCount) 2;
     }
 
 -- the words of a slot, in order
-abbrev pub wordsOfSlot : Slot → List ℕ
-wordsOfSlot s =
+abbrev pub wordsOfSlot : Rules → Slot → List ℕ
+wordsOfSlot rules s =
     s .number
     ∷ ofZ w32 (s .xx)
     ∷ ofZ w32 (s .xy)
@@ -90,22 +94,31 @@ wordsOfSlot s =
     ∷ s .left
     ∷ s .width
     ∷ s .height
-    ∷ []
+    ∷ cond (rules .holdsChoice) (s .free ∷ []) []
 
 -- the words with those of a slot written at its place
-abbrev pub withSlot : ℕ → Slot → List ℕ → List ℕ
-withSlot place s words = put (slotWords * place) (wordsOfSlot s) words
+abbrev pub withSlot : Rules → ℕ → Slot → List ℕ → List ℕ
+withSlot rules place s words = put (slotWords rules * place) (wordsOfSlot rules s) words
 
 -- with those of the first n slots written
-unfoldable pub withSlots : Service → ℕ → List ℕ → List ℕ
-withSlots r zero words = words
-withSlots r (suc n) words = withSlot n (slotAt r n) (withSlots r n words)
+unfoldable pub withSlots : Rules → Service → ℕ → List ℕ → List ℕ
+withSlots rules r zero words = words
+withSlots rules r (suc n) words = withSlot rules n (slotAt r n) (withSlots rules r n words)
 
 -- with the whole record written
-abbrev pub withService : Service → List ℕ → List ℕ
-withService r words =
-    put (slotWords * slotCount) (r .last ∷ r .filled ∷ r .served ∷ []) (withSlots r slotCount words)
+abbrev pub withService : Rules → Service → List ℕ → List ℕ
+withService rules r words =
+    put (slotWords rules * rules .slotCount) (r .last ∷ r .filled ∷ r .served ∷ []) (withSlots rules r (rules .slotCount) words)
 
 -- with what a tick changes written: the steps left of the slot that was served, and the slot last served
-abbrev pub withTurn : ℕ → ℕ → List ℕ → List ℕ
-withTurn place left words = set (set words (wordPlace place 5) left) (wordPlace slotCount 2) place
+abbrev pub withTurn : Rules → ℕ → ℕ → List ℕ → List ℕ
+withTurn rules place left words = set (set words (wordPlace rules place 5) left) (wordPlace rules (rules .slotCount) 2) place
+
+-- ---- the words of the base rules in the places of those of this library, each f 0: so the change-over reads them
+unfoldable pub widenedSlots : List ℕ → ℕ → List ℕ → List ℕ
+widenedSlots old zero words = words
+widenedSlots old (suc n) words = put (slotWords currentRules * n) (part (slotWords baseRules * n) 8 old) (widenedSlots old n words)
+
+abbrev pub widened : List ℕ → List ℕ
+widened old =
+    put (slotWords currentRules * 8) (part (slotWords baseRules * 8) 3 old) (widenedSlots old 8 (replicate (wordCount currentRules) 0))

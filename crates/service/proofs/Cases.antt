@@ -1,17 +1,22 @@
 -- Worked turns of a tick, as one computed table: which slot is served and what is left of it then, and place 0 and left 0 where
--- none is. Assumes nothing.
+-- none is; and worked change-overs of old records. Assumes nothing.
 use mathlib.Core.Path.{_≡_, refl}
 use mathlib.Core.List.{List, [], _∷_, map}
 use Prim.Native.Nat.{ℕ}
 use lib.ListN.{replicate}
-use lib.IntN.{pos}
-use Rattle.kernel.specs.Existence.{kernelExists}
+use lib.IntN.{ℤ, pos, negsuc}
+use Rattle.limits.specs.declared.ErrorCode.the-variants.{RecordOutOfOrder}
+use Rattle.limits.specs.declared.Outcome.the-variants.{Accepted, Refused}
+use Rattle.kernel.specs.Existence.{kernelExists, freeFits}
 use Rattle.machine.specs.declared.Slot.{Slot}
 use Rattle.machine.specs.declared.Service.{Service}
+use Rattle.machine.specs.declared.BaseSlot.{BaseSlot}
+use Rattle.machine.specs.declared.BaseService.{BaseService}
 use Rattle.machine.specs.Slots.{firstFrom, countOf, everyPlace}
 use Rattle.machine.specs.Order.{allZero, filledFine, slotFine, inOrder, usable}
+use Rattle.machine.specs.Change.{changeOf}
 use Rattle.machine.specs.Answers.{answerNumber, answerValues}
-use Rattle.machine.proofs.Lines.{seat, none, keeps}
+use Rattle.machine.proofs.Lines.{seat, seat-with, none, keeps}
 use Rattle.service.specs.declared.Turn.{Turn}
 use Rattle.service.specs.Called.{turnOf}
 
@@ -74,5 +79,59 @@ computed r =
     row (r .served) (r .leftOf5) (r .leftOf9) (r .pixels) (answerNumber (t .answer)) (answerValues (t .answer)) (t .place) (t .left)
 
 pub turns : map computed table ≡ table
-unfolding turnOf usable inOrder slotFine filledFine allZero kernelExists firstFrom countOf everyPlace
+unfolding turnOf usable inOrder slotFine filledFine allZero kernelExists freeFits firstFrom countOf everyPlace
 turns = refl
+
+-- ---- the change-over of an old record, whole
+abbrev pub oldSeat : ℕ → ℤ → ℤ → ℤ → ℕ → ℕ → ℕ → ℕ → BaseSlot
+oldSeat number xx xy yy steps left w h =
+    record {
+      number = number;
+      xx = xx;
+      xy = xy;
+      yy = yy;
+      steps = steps;
+      left = left;
+      width = w;
+      height = h;
+    }
+
+abbrev pub oldNone : BaseSlot
+oldNone = oldSeat 0 (pos 0) (pos 0) (pos 0) 0 0 0 0
+
+-- job 5 in slot 2, half done, and job 9 in slot 6, finished; slot 6 was filled last
+abbrev pub oldRecord : ℕ → BaseService
+oldRecord served =
+    record {
+      slots =
+          oldNone ∷ oldNone
+          ∷ oldSeat 5 (pos 4097) (pos 0) (pos 4096) 2 1 3 4
+          ∷ oldNone ∷ oldNone ∷ oldNone
+          ∷ oldSeat 9 (pos 1000) (negsuc 699) (pos 1001) 3 0 5 6
+          ∷ oldNone ∷ [];
+      last = 11;
+      filled = 6;
+      served = served;
+    }
+
+-- "with the smallest f in each filled seat": 4097 + 4096 − 8192, and |−700|
+pub change-made : changeOf (oldRecord 2)
+    ≡ record {
+      outcome = Accepted;
+      service =
+          keeps
+          (none ∷ none
+          ∷ seat-with 1 (seat 5 (pos 4097) (pos 0) (pos 4096) 2 1 3 4)
+          ∷ none ∷ none ∷ none
+          ∷ seat-with 700 (seat 9 (pos 1000) (negsuc 699) (pos 1001) 3 0 5 6)
+          ∷ none ∷ [])
+          11 6 2;
+    }
+unfolding inOrder slotFine filledFine allZero kernelExists countOf everyPlace
+change-made = refl
+
+-- slot 8 was served: 2, and beside it a record that is not in order
+pub change-refused : changeOf (oldRecord 8)
+    ≡ record { outcome = Refused RecordOutOfOrder; service = keeps (none ∷ none ∷ none ∷ none ∷ none ∷ none ∷ none ∷ none ∷ []) 0 8 8 }
+unfolding inOrder slotFine filledFine allZero kernelExists countOf everyPlace
+change-refused = refl

@@ -15,6 +15,7 @@ use Rattle.limits.specs.declared.Outcome.{Outcome}
 use Rattle.limits.specs.declared.Outcome.the-variants as O
 use Rattle.limits.specs.declared.ErrorCode.{ErrorCode}
 use Rattle.limits.specs.declared.ErrorCode.the-variants.{RecordOutOfOrder, NoSuchJob, VarianceOutOfRange, NotADirection}
+use Rattle.kernel.specs.declared.Choice.{Choice}
 use Rattle.covariance.specs.declared.Shape.{Shape}
 use Rattle.covariance.specs.declared.Covariance.the-variants as C
 use Rattle.covariance.specs.Shapes.{variancesFine, directionFine, covarianceXX, covarianceXY, covarianceYY}
@@ -45,9 +46,9 @@ abbrev pub outOfOrder : Service → List ℕ → List ℕ → Result
 outOfOrder r store lent = record { answer = Refused RecordOutOfOrder; service = r; store = store; lent = lent }
 
 module _ (r : Service) (store : List ℕ) (bad : (inOrder currentRules r && eqb (length store) storeLength) ≡ false) where
-  pub submit-unusable : (shape : Shape) (k w h : ℕ) (pixels : List ℕ) → submitOf currentRules r store shape k w h pixels ≡ outOfOrder r store pixels
+  pub submit-unusable : (choice : Choice) (shape : Shape) (k w h : ℕ) (pixels : List ℕ) → submitOf currentRules r store choice shape k w h pixels ≡ outOfOrder r store pixels
   unfolding submitOf submitChecks usable
-  submit-unusable shape k w h pixels = rw bad
+  submit-unusable choice shape k w h pixels = rw bad
 
   pub tick-unusable : tickOf currentRules r store ≡ outOfOrder r store []
   unfolding tickOf usable
@@ -81,10 +82,10 @@ module _ (r : Service) (store : List ℕ) (good : (inOrder currentRules r && eqb
   collect-missing n lent e = rw (good, e)
 
   -- a submit whose shape is refused
-  pub submit-bad-shape : (shape : Shape) (k w h : ℕ) (pixels : List ℕ) (code : ErrorCode) → firstRefusal (shapeChecks shape) ≡ O.Refused code
-      → submitOf currentRules r store shape k w h pixels ≡ record { answer = Refused code; service = r; store = store; lent = pixels }
+  pub submit-bad-shape : (choice : Choice) (shape : Shape) (k w h : ℕ) (pixels : List ℕ) (code : ErrorCode) → firstRefusal (shapeChecks shape) ≡ O.Refused code
+      → submitOf currentRules r store choice shape k w h pixels ≡ record { answer = Refused code; service = r; store = store; lent = pixels }
   unfolding submitOf submitChecks usable
-  submit-bad-shape shape k w h pixels code e = rw (good, longer (variancesFine shape) (directionFine shape) e)
+  submit-bad-shape choice shape k w h pixels code e = rw (good, longer (variancesFine shape) (directionFine shape) e)
     where
       rest : List Check
       rest = jobChecks (covarianceXX shape) (covarianceXY shape) (covarianceYY shape) k w h (length pixels) (roomChecks currentRules r)
@@ -96,11 +97,11 @@ module _ (r : Service) (store : List ℕ) (good : (inOrder currentRules r && eqb
       longer false b e = e
 
   -- one whose shape is fine
-  pub submit-checked : (shape : Shape) (k w h : ℕ) (pixels : List ℕ) (o : Outcome) → (variancesFine shape ≡ true) × (directionFine shape ≡ true)
+  pub submit-checked : (choice : Choice) (shape : Shape) (k w h : ℕ) (pixels : List ℕ) (o : Outcome) → (variancesFine shape ≡ true) × (directionFine shape ≡ true)
       → firstRefusal (jobChecks (covarianceXX shape) (covarianceXY shape) (covarianceYY shape) k w h (length pixels) (roomChecks currentRules r)) ≡ o
-      → submitOf currentRules r store shape k w h pixels ≡ unlessRefused o r store pixels (submitAt currentRules r store shape k w h pixels (emptyPlace currentRules r))
+      → submitOf currentRules r store choice shape k w h pixels ≡ unlessRefused o r store pixels (submitAt currentRules r store choice shape k w h pixels (emptyPlace currentRules r))
   unfolding submitOf submitChecks usable
-  submit-checked shape k w h pixels o fine e = rw (good, fine .0, fine .1, e)
+  submit-checked choice shape k w h pixels o fine e = rw (good, fine .0, fine .1, e)
 
 -- ---- a tick by its turn
 -- that a turn is what a tick answers and changes in the record
@@ -152,7 +153,7 @@ shape-refused shape code e = go (firstRefusal (shapeChecks shape)) e
     go (O.Refused other) e = cc
 
 -- the slot that a submit fills, with the numbers of its shape at hand
-pub fill-is : (r : Service) (store : List ℕ) (shape : Shape) (k w h : ℕ) (pixels : List ℕ) (slot : Slot) (f : Found)
-    → slot ≡ newSlot (r .last + 1) shape k w h → fillAt r store slot pixels f ≡ submitAt currentRules r store shape k w h pixels f
-fill-is r store shape k w h pixels slot (At i) e = rw e
-fill-is r store shape k w h pixels slot Nothing e = refl
+pub fill-is : (r : Service) (store : List ℕ) (choice : Choice) (shape : Shape) (k w h : ℕ) (pixels : List ℕ) (slot : Slot) (f : Found)
+    → slot ≡ newSlot currentRules (r .last + 1) choice shape k w h → fillAt r store slot pixels f ≡ submitAt currentRules r store choice shape k w h pixels f
+fill-is r store choice shape k w h pixels slot (At i) e = rw e
+fill-is r store choice shape k w h pixels slot Nothing e = refl

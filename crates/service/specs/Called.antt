@@ -41,14 +41,6 @@ abbrev pub handOver : Service → List ℕ → ℕ → List ℕ → ℕ → Resu
 handOver r store number lent i =
     unlessRefused (firstRefusal (handOverChecks (slotAt r i) (length lent))) r store lent (collectAt currentRules r store number lent (At i))
 
--- a slot whose picture can be taken one step on
-pub record Ready (n : ℕ) (s : Slot) (i : ℕ) : Type 0 where
-  pub long : n ≡ storeLength
-  pub at : i < slotCount
-  pub left : 0 < s .left
-  pub last : ℕ
-  pub filled : FilledSlot last s
-
 -- the turn of a tick that makes no step: its answer alone
 abbrev pub noTurn : Answer → T.Turn
 noTurn answer = record { answer = answer; place = 0; left = 0 }

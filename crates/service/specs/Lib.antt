@@ -1,2 +1,3 @@
 -- What the running calls hand back.
 pub mod Called
+pub mod Given

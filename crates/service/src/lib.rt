@@ -1,20 +1,25 @@
-// The running service: opening, submit, tick, collect, withdraw and the free count. The record goes in by value and comes back
+// The running service: opening, submit, tick, collect, withdraw, the free count, and the change-over of a record from before slots held f. The record goes in by value and comes back
 // by value, the store and the pictures are lent. Each call's contract is an equation with the state machine of `machine`, of
 // which demand 3 is proved. Whatever record comes in is in order or refused with 2: no field of it is trusted before.
 ghost use mathlib.Core.Path.{_≡_};
 ghost use mathlib.Core.Bool.{_&&_, true};
 ghost use mathlib.Core.List.{List};
-ghost use Prim.Native.Nat.{ℕ, _+_, _*_, _<_, _≤_};
+ghost use lib.IntN.{ℤ};
+ghost use Prim.Native.Nat.{ℕ, _<_, _≤_};
 ghost use lib.Dec.{eqb};
 ghost use lib.ListN.{length};
 ghost use Rattle.limits.specs.Limits.{fitsBuffer, bufferPixels};
 ghost use Rattle.limits.specs.Errors.{firstRefusal};
-ghost use Rattle.machine.specs.Rules.{currentRules};
+ghost use Rattle.kernel.specs.Choice.{defaultChoice};
+ghost use Rattle.kernel.specs.Answer.{kernelChecks};
+ghost use Rattle.machine.specs.Rules.{baseRules, currentRules};
 ghost use Rattle.machine.specs.Slots.{slotCount, slotAt, opening as openingOf};
-ghost use Rattle.machine.specs.Store.{storeLength, bufferAfter, put, stepsDone};
+ghost use Rattle.machine.specs.Store.{storeLength};
 ghost use Rattle.machine.specs.Order.{inOrder};
-ghost use Rattle.machine.specs.Calls.{turnedAt, submitOf, tickOf, collectOf, withdrawOf, freeCountOf, emptyPlace, placeOf, emptied as emptiedOf, freeBuffers, jobChecks, roomChecks, nextImage};
-ghost use Rattle.service.specs.Called.{calledOf, fillAt, handOver, turnOf, Ready};
+ghost use Rattle.machine.specs.Calls.{turnedAt, submitOf, tickOf, collectOf, withdrawOf, freeCountOf, emptyPlace, placeOf, emptied as emptiedOf, freeBuffers, jobChecks, roomChecks};
+ghost use Rattle.machine.specs.Change.{slotFromBase, serviceFromBase, withFree, changedOver, changeChecks, noService, changeWith, changeOf};
+ghost use Rattle.service.specs.Called.{calledOf, fillAt, handOver, turnOf};
+ghost use Rattle.service.specs.Given.{slotGiven, serviceGiven};
 use covariance::Covariance;
 use covariance::Shape;
 use kernel::Choice;
@@ -23,8 +28,12 @@ use limits::Outcome;
 use machine::Answer;
 use machine::BUFFERS;
 use machine::BUFFERS_PER_SLOT;
+use machine::BaseService;
+use machine::BaseSlot;
+use machine::ChangedOver;
 use machine::Found;
 use machine::FreeCount;
+use machine::SLOTS;
 use machine::STORE_PIXELS;
 use machine::Service;
 use machine::Slot;
@@ -115,29 +124,16 @@ pub fn withdraw(service: Service, number: u64) -> Called
     refused(service, ErrorCode::RecordOutOfOrder)
 }
 
-// The buffers of a slot as many as places are counted.
-const BUFFERS_OF_SLOT: usize = BUFFERS_PER_SLOT as usize;
-
-// The place where the picture of a slot stands after so many steps: each step goes to the slot's other buffer.
-fn buffer_after(place: usize, done: usize) -> usize
-    requires { ⌜ place < slotCount ⌝ }
-    ensures { λ r. ⌜ r ≡ bufferAfter currentRules place done ⌝ }
-{
-    limits::BUFFER_PIXELS * (BUFFERS_OF_SLOT * place + done % BUFFERS_OF_SLOT)
-}
-
-// Refusals 5 to 13 of a submit, for the covariance of its shape.
+// Refusals 5 to 13 of a submit, for what the kernel of its shape's covariance was refused with.
 fn job_checks(
     service: Service,
-    xx: i32,
-    xy: i32,
-    yy: i32,
+    kernel: Outcome,
     steps: u32,
     width: u32,
     height: u32,
     length: usize,
 ) -> Outcome
-    ensures { λ r. ⌜ r ≡ firstRefusal (jobChecks xx xy yy steps width height length (roomChecks currentRules service)) ⌝ }
+    ensures { λ r. ⌜ ((x z y : ℤ) → kernel ≡ kernelChecks x z y steps → r ≡ firstRefusal (jobChecks x z y steps width height length (roomChecks currentRules service))) ⌝ }
 {
     if !limits::steps_in_range(steps) {
         return Outcome::Refused(ErrorCode::StepsOutOfRange);
@@ -151,10 +147,10 @@ fn job_checks(
     if !limits::fits_buffer(width, height) {
         return Outcome::Refused(ErrorCode::TooManyPixels);
     }
-    if !slots::has_kernel(xx, xy, yy, steps) {
-        return Outcome::Refused(ErrorCode::NoKernel);
+    match kernel {
+        Outcome::Accepted => room_checks(service),
+        Outcome::Refused(_) => Outcome::Refused(ErrorCode::NoKernel),
     }
-    room_checks(service)
 }
 
 fn room_checks(service: Service) -> Outcome
@@ -177,7 +173,7 @@ fn fill(service: Service, store: &mut [u16], slot: Slot, pixels: &[u16]) -> Call
     let start = slots::next_place(service.filled as usize);
     match slots::find(service, Sought::Empty, start) {
         Found::At(place) => {
-            buffers::copy_in(store, buffer_after(place, 0), pixels);
+            buffers::copy_in(store, buffers::buffer_after(place, 0), pixels);
             let mut next = service;
             next.slots[place] = slot;
             next.last = slot.number;
@@ -191,16 +187,18 @@ fn fill(service: Service, store: &mut [u16], slot: Slot, pixels: &[u16]) -> Call
     }
 }
 
-pub fn submit(
+// A submit by a choice of the free number, which the job's slot then holds.
+pub fn submit_by(
     service: Service,
     store: &mut [u16],
+    choice: Choice,
     shape: Shape,
     steps: u32,
     width: u32,
     height: u32,
     pixels: &[u16],
 ) -> Called
-    ensures { λ r. ⌜ (r ≡ calledOf (submitOf currentRules service (now (store .entry)) shape steps width height (now (pixels .entry)))) × (now (store .exit) ≡ submitOf currentRules service (now (store .entry)) shape steps width height (now (pixels .entry)) .store) ⌝ }
+    ensures { λ r. ⌜ (r ≡ calledOf (submitOf currentRules service (now (store .entry)) choice shape steps width height (now (pixels .entry)))) × (now (store .exit) ≡ submitOf currentRules service (now (store .entry)) choice shape steps width height (now (pixels .entry)) .store) ⌝ }
 {
     if !usable(service, store.len()) {
         return refused(service, ErrorCode::RecordOutOfOrder);
@@ -208,7 +206,9 @@ pub fn submit(
     match covariance::covariance_of(shape) {
         Covariance::Refused(code) => refused(service, code),
         Covariance::Entries(xx, xy, yy) => {
-            match job_checks(service, xx, xy, yy, steps, width, height, pixels.len()) {
+            let free = kernel::free_by(choice, xx, xy, yy, steps);
+            let kernel = free.outcome;
+            match job_checks(service, kernel, steps, width, height, pixels.len()) {
                 Outcome::Refused(code) => refused(service, code),
                 Outcome::Accepted => {
                     let slot = Slot {
@@ -220,6 +220,7 @@ pub fn submit(
                         left: steps,
                         width,
                         height,
+                        free: free.free,
                     };
                     fill(service, store, slot, pixels)
                 }
@@ -228,37 +229,40 @@ pub fn submit(
     }
 }
 
-// One step of the picture of a slot, from its buffer to the slot's other one. The record holds no choice of the free number, and
-// the service goes on with the smallest.
-fn step_slot(store: &mut [u16], slot: Slot, place: usize)
-    requires { ⌜ Ready (length (now store)) slot place ⌝ }
-    ensures { λ _. ⌜ now (store .exit) ≡ put (bufferAfter currentRules place (stepsDone slot + 1)) (nextImage currentRules (now (store .entry)) place slot) (now (store .entry)) ⌝ }
+// A submit that names no choice has the one that holds where none is named.
+pub fn submit(
+    service: Service,
+    store: &mut [u16],
+    shape: Shape,
+    steps: u32,
+    width: u32,
+    height: u32,
+    pixels: &[u16],
+) -> Called
+    ensures { λ r. ⌜ (r ≡ calledOf (submitOf currentRules service (now (store .entry)) defaultChoice shape steps width height (now (pixels .entry)))) × (now (store .exit) ≡ submitOf currentRules service (now (store .entry)) defaultChoice shape steps width height (now (pixels .entry)) .store) ⌝ }
 {
-    let answer = kernel::kernel_by(Choice::Smallest, slot.xx, slot.xy, slot.yy, slot.steps);
-    let kernel = answer.kernel;
-    let done = (slot.steps - slot.left) as usize;
-    let from = buffer_after(place, done);
-    let to = buffer_after(place, done + 1);
-    buffers::step_between(
+    submit_by(
+        service,
         store,
-        from,
-        to,
-        slot.width as usize,
-        slot.height as usize,
-        kernel,
-    );
+        Choice::Binomial,
+        shape,
+        steps,
+        width,
+        height,
+        pixels,
+    )
 }
 
 // The answer of a tick with what it changed in the record: the steps left of the slot that was served. Where there was no step
 // place and left are 0.
-pub struct Turn {
-    pub answer: Answer,
-    pub place: usize,
-    pub left: u32,
+struct Turn {
+    answer: Answer,
+    place: usize,
+    left: u32,
 }
 
 // A tick without the record after it: one step of the picture of the slot whose turn it is.
-pub fn take_turn(service: Service, store: &mut [u16]) -> Turn
+fn take_turn(service: Service, store: &mut [u16]) -> Turn
     ensures { λ r. ⌜ r ≡ turnOf service (now (store .entry)) ⌝ }
     ensures { λ _. ⌜ now (store .exit) ≡ tickOf currentRules service (now (store .entry)) .store ⌝ }
 {
@@ -273,7 +277,7 @@ pub fn take_turn(service: Service, store: &mut [u16]) -> Turn
     match slots::find(service, Sought::WithStepsLeft, start) {
         Found::At(place) => {
             let slot = service.slots[place];
-            step_slot(store, slot, place);
+            buffers::step_slot(store, slot, place);
             Turn {
                 answer: Answer::Job(slot.number),
                 place,
@@ -332,7 +336,7 @@ fn hand_over(service: Service, store: &[u16], number: u64, place: usize, lent: &
         return refused(service, ErrorCode::WrongLength);
     }
     let done = (slot.steps - slot.left) as usize;
-    buffers::copy_out(store, buffer_after(place, done), lent);
+    buffers::copy_out(store, buffers::buffer_after(place, done), lent);
     Called {
         answer: Answer::Job(number),
         service: emptied(service, place),
@@ -349,4 +353,116 @@ pub fn collect(service: Service, store: &[u16], number: u64, lent: &mut [u16]) -
         Found::At(place) => hand_over(service, store, number, place, lent),
         Found::Nothing => refused(service, ErrorCode::NoSuchJob),
     }
+}
+
+fn with_free(slot: Slot, free: u32) -> Slot
+    ensures { λ r. ⌜ r ≡ withFree slot free ⌝ }
+{
+    let mut next = slot;
+    next.free = free;
+    next
+}
+
+// The slot with the smallest free number, and an empty one with 0. Where no kernel exists it is 0, too: the record is refused then.
+fn given(slot: Slot) -> Slot
+    ensures { λ r. ⌜ r ≡ slotGiven slot ⌝ }
+{
+    if slot.number == 0 {
+        return with_free(slot, 0);
+    }
+    let answer = kernel::free_by(Choice::Smallest, slot.xx, slot.xy, slot.yy, slot.steps);
+    with_free(slot, answer.free)
+}
+
+fn all_given(service: Service) -> Service
+    ensures { λ r. ⌜ r ≡ serviceGiven service ⌝ }
+{
+    let empty = slots::empty_slot();
+    let mut all = [empty; SLOTS];
+    let mut i = 0usize;
+    while i < SLOTS {
+        let slot = service.slots[i];
+        all[i] = given(slot);
+        i += 1;
+    }
+    Service {
+        slots: all,
+        last: service.last,
+        filled: service.filled,
+        served: service.served,
+    }
+}
+
+// What stands beside a refused change-over: no slot is the one last filled, so no call takes it.
+fn no_service() -> Service
+    ensures { λ r. ⌜ r ≡ noService ⌝ }
+{
+    let empty = slots::empty_slot();
+    let slots = [empty; SLOTS];
+    Service {
+        slots,
+        last: 0,
+        filled: SLOTS as u32,
+        served: SLOTS as u32,
+    }
+}
+
+// The change-over of a record whose free numbers count for nothing. The record that it makes is in order exactly where the old one is
+// by the old rule, so that one test serves both.
+pub fn changed_over(service: Service) -> ChangedOver
+    ensures { λ r. ⌜ r ≡ changeWith (changeChecks baseRules service) (changedOver service) ⌝ }
+{
+    let next = all_given(service);
+    if slots::in_order(next) {
+        return ChangedOver {
+            outcome: Outcome::Accepted,
+            service: next,
+        };
+    }
+    ChangedOver {
+        outcome: Outcome::Refused(ErrorCode::RecordOutOfOrder),
+        service: no_service(),
+    }
+}
+
+fn slot_from_base(slot: BaseSlot) -> Slot
+    ensures { λ r. ⌜ r ≡ slotFromBase slot ⌝ }
+{
+    Slot {
+        number: slot.number,
+        xx: slot.xx,
+        xy: slot.xy,
+        yy: slot.yy,
+        steps: slot.steps,
+        left: slot.left,
+        width: slot.width,
+        height: slot.height,
+        free: 0,
+    }
+}
+
+fn service_from_base(old: BaseService) -> Service
+    ensures { λ r. ⌜ r ≡ serviceFromBase old ⌝ }
+{
+    let empty = slots::empty_slot();
+    let mut all = [empty; SLOTS];
+    let mut i = 0usize;
+    while i < SLOTS {
+        let slot = old.slots[i];
+        all[i] = slot_from_base(slot);
+        i += 1;
+    }
+    Service {
+        slots: all,
+        last: old.last,
+        filled: old.filled,
+        served: old.served,
+    }
+}
+
+// The change-over of a unit while it runs: the old record becomes a new one, or is refused with 2.
+pub fn change_over(old: BaseService) -> ChangedOver
+    ensures { λ r. ⌜ r ≡ changeOf old ⌝ }
+{
+    changed_over(service_from_base(old))
 }

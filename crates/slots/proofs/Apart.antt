@@ -62,7 +62,7 @@ module _ (rules : Rules) (r : Service) where
   occurs = occurrencesOf numbers
 
   abbrev fineAfter : ℕ → Bool
-  fineAfter i = slotFineAfter (r .last) numbers i (slotAt r i)
+  fineAfter i = slotFineAfter rules (r .last) numbers i (slotAt r i)
 
   number-at : (i : ℕ) → i < rules .slotCount → getD numbers i 0 ≡ slotAt r i .number
   number-at i h = entry (rules .slotCount) (numberAt (r .slots)) 0 i h
@@ -81,7 +81,7 @@ module _ (rules : Rules) (r : Service) where
   once-after i h =
       let s = slotAt r i in
       let n = s .number in
-      in-place-of (isEmpty s) (allZero s) (filledFine (r .last) s) (unshared rules (r .slots) s) (eqb (occurs n i) 0)
+      in-place-of (isEmpty s) (allZero rules s) (filledFine rules (r .last) s) (unshared rules (r .slots) s) (eqb (occurs n i) 0)
       (λ z e.
       let one = eqb-true (countOf (hasNumber n) (r .slots) (rules .slotCount)) 1 e in
       let all = count-all n in
@@ -94,8 +94,8 @@ module _ (rules : Rules) (r : Service) where
     none-before n i h e ne =
         let s = slotAt r i in
         let new = eqb (occurs (s .number) i) 0 in
-        let both : (filledFine (r .last) s && new) ≡ true = rw (ne-eqb (s .number) 0 (λ z. ne (sym e ∙ z))) at (after i h) in
-        rw e at (eqb-true (occurs (s .number) i) 0 (both-true (filledFine (r .last) s) new both .1))
+        let both : (filledFine rules (r .last) s && new) ≡ true = rw (ne-eqb (s .number) 0 (λ z. ne (sym e ∙ z))) at (after i h) in
+        rw e at (eqb-true (occurs (s .number) i) 0 (both-true (filledFine rules (r .last) s) new both .1))
 
     -- a later slot with the number of a filled one would have it again
     one-past : (n i : ℕ) → slotAt r i .number ≡ n → (n ≡ 0 → ⊥) → (m : ℕ) → i < m → m ≤ rules .slotCount → occurs n m ≡ 1
@@ -121,7 +121,7 @@ module _ (rules : Rules) (r : Service) where
     after-once i h =
         let s = slotAt r i in
         let n = s .number in
-        in-place-of (isEmpty s) (allZero s) (filledFine (r .last) s) (eqb (occurs n i) 0) (unshared rules (r .slots) s)
+        in-place-of (isEmpty s) (allZero rules s) (filledFine rules (r .last) s) (eqb (occurs n i) 0) (unshared rules (r .slots) s)
         (λ z e.
         let one = one-past n i refl (eqb-false n 0 z) (rules .slotCount) h (omega arith) in
         let all = count-all n in

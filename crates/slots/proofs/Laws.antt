@@ -1,5 +1,5 @@
 -- The searches and counts one turn of a loop at a time, and signed fields that pass through a call. Assumes nothing.
-use mathlib.Core.Path.{_≡_, refl, sym, _∙_}
+use mathlib.Core.Path.{_≡_, refl, sym, _∙_, ap}
 use mathlib.Core.Bool.{Bool, true, false, _&&_}
 use mathlib.Core.List.{List}
 use Prim.Native.Nat.{ℕ, zero, suc, _+_, _-_, _^_, _<_, _≤_}
@@ -13,17 +13,8 @@ use lib.Signed.{mag}
 use mir.Syntax.{w32}
 use mir.Val.{SFits, toZ, ofZ}
 use mir.ValLaws.{toZ-ofZ}
-use Rattle.limits.specs.Limits.{stepsInRange}
-use Rattle.limits.specs.Errors.{unless}
-use Rattle.limits.specs.declared.ErrorCode.{ErrorCode}
-use Rattle.limits.specs.declared.ErrorCode.the-variants.{StepsOutOfRange, NoKernel}
-use Rattle.limits.specs.declared.Outcome.the-variants.{Accepted, Refused}
-use Rattle.kernel.specs.declared.Choice.{Choice}
-use Rattle.kernel.specs.Molecule.{unitsOf}
-use Rattle.kernel.specs.Choice.{kernelBy}
-use Rattle.kernel.specs.Existence.{kernelExists}
-use Rattle.kernel.specs.Answer.{answerWith, kernelAnswer}
-use Rattle.limits.proofs.Checks.{refused-not-accepted}
+use Rattle.kernel.specs.Existence.{kernelExists, freeFits}
+use Rattle.kernel.proofs.Bounds.{fits-exists}
 use Rattle.machine.specs.declared.Slot.{Slot}
 use Rattle.machine.specs.declared.Found.the-variants.{At, Nothing}
 use Rattle.machine.specs.Slots.{emptySlot, nextPlace, firstFrom, countOf}
@@ -68,20 +59,14 @@ zero-bits (negsuc n) h =
     ne-eqb (2 ^ 32 - suc n) 0 (λ e. let g : n < 2 ^ 31 = h .sfits in omega arith)
     ∙ (let z : isZero (negsuc n) ≡ false = ne-eqb (suc n) 0 (λ e. omega arith) in sym z)
 
--- what the outcome of the kernel call says
-pub with-kernel : (choice : Choice) (x z y : ℤ) (k : ℕ) → kernelAnswer choice x z y k .outcome ≡ Accepted → (stepsInRange k && kernelExists x z y (unitsOf k)) ≡ true
-with-kernel choice x z y k = go (stepsInRange k) (kernelExists x z y (unitsOf k))
+-- where f lies between its bounds a kernel exists, so that the test of f alone is that of both
+pub bounds-alone : (a : Bool) (x z y : ℤ) (f m : ℕ) → (a && freeFits x z y f m) ≡ (a && (kernelExists x z y m && freeFits x z y f m))
+bounds-alone a x z y f m = ap (λ b. a && b) (go (freeFits x z y f m) refl)
   where
-    go : (a b : Bool) → answerWith (unless a (Refused StepsOutOfRange) (unless b (Refused NoKernel) Accepted)) (kernelBy choice x z y k) .outcome ≡ Accepted → a && b ≡ true
-    go true true e = refl
-    go true false e = absurd (refused-not-accepted e)
-    go false b e = absurd (refused-not-accepted e)
+    none : (b : Bool) → (b && false) ≡ false
+    none true = refl
+    none false = refl
 
-pub without-kernel : (choice : Choice) (x z y : ℤ) (k : ℕ) (code : ErrorCode) → kernelAnswer choice x z y k .outcome ≡ Refused code
-    → (stepsInRange k && kernelExists x z y (unitsOf k)) ≡ false
-without-kernel choice x z y k code = go (stepsInRange k) (kernelExists x z y (unitsOf k))
-  where
-    go : (a b : Bool) → answerWith (unless a (Refused StepsOutOfRange) (unless b (Refused NoKernel) Accepted)) (kernelBy choice x z y k) .outcome ≡ Refused code → a && b ≡ false
-    go true true e = absurd (refused-not-accepted (sym e))
-    go true false e = refl
-    go false b e = refl
+    go : (t : Bool) → freeFits x z y f m ≡ t → freeFits x z y f m ≡ (kernelExists x z y m && freeFits x z y f m)
+    go true e = rw (e, fits-exists x z y f m e)
+    go false e = rw e (sym (none (kernelExists x z y m)))

@@ -6,6 +6,7 @@ use lib.Dec.{eqb}
 use lib.ListN.{getD}
 use Rattle.image.specs.Image.{entries}
 use Rattle.machine.specs.declared.Slot.{Slot}
+use Rattle.machine.specs.Rules.{Rules}
 use Rattle.machine.specs.Slots.{emptySlot, isEmpty}
 use Rattle.machine.specs.Order.{allZero, filledFine}
 
@@ -23,6 +24,6 @@ occurrencesOf numbers number (suc n) =
     cond (eqb (getD numbers n 0) number) (occurrencesOf numbers number n + 1) (occurrencesOf numbers number n)
 
 -- the test of the slot at a place: the number of a filled one is none of the numbers before
-unfoldable pub slotFineAfter : ℕ → List ℕ → ℕ → Slot → Bool
-slotFineAfter last numbers place s =
-    cond (isEmpty s) (allZero s) (filledFine last s && eqb (occurrencesOf numbers (s .number) place) 0)
+unfoldable pub slotFineAfter : Rules → ℕ → List ℕ → ℕ → Slot → Bool
+slotFineAfter rules last numbers place s =
+    cond (isEmpty s) (allZero rules s) (filledFine rules last s && eqb (occurrencesOf numbers (s .number) place) 0)

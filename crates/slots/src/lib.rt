@@ -1,19 +1,13 @@
 // The slots of the service record in code: the opening, one search and one count for all calls, and the check that a record
 // is in order. Records go by value; no field of one that comes in is trusted. An inner crate: `find` asks where to start.
 ghost use mathlib.Core.Path.{_≡_};
-ghost use mathlib.Core.Bool.{_&&_};
 ghost use Prim.Native.Nat.{_<_, _≤_};
 ghost use lib.Dec.{eqb};
-ghost use Rattle.kernel.specs.Molecule.{unitsOf};
-ghost use Rattle.kernel.specs.Existence.{kernelExists};
-ghost use Rattle.limits.specs.Limits.{stepsInRange};
 ghost use Rattle.machine.specs.Rules.{currentRules};
 ghost use Rattle.machine.specs.Slots.{slotCount, emptySlot, nextPlace, firstFrom, countOf, opening as openingOf};
 ghost use Rattle.machine.specs.Order.{isZero, allZero, filledFine, inOrder as inOrderOf};
 ghost use Rattle.slots.specs.Sought.{testOf};
 ghost use Rattle.slots.specs.Numbers.{numbersOf, occurrencesOf, slotFineAfter};
-use kernel::Choice;
-use limits::Outcome;
 use limits::both;
 use machine::Found;
 use machine::SLOTS;
@@ -45,6 +39,7 @@ pub fn empty_slot() -> Slot
         left: 0,
         width: 0,
         height: 0,
+        free: 0,
     }
 }
 
@@ -120,25 +115,16 @@ fn is_zero(v: i32) -> bool
     v == 0
 }
 
-// Whether the steps are in range and a kernel exists, which is the same for each choice of the free number.
-pub fn has_kernel(xx: i32, xy: i32, yy: i32, steps: u32) -> bool
-    ensures { λ r. ⌜ r ≡ (stepsInRange steps && kernelExists xx xy yy (unitsOf steps)) ⌝ }
-{
-    let answer = kernel::kernel_by(Choice::Smallest, xx, xy, yy, steps);
-    let outcome = answer.outcome;
-    match outcome {
-        Outcome::Accepted => true,
-        Outcome::Refused(_) => false,
-    }
-}
-
 // An empty slot is all zero: besides its number, each of its numbers.
 fn all_zero(slot: Slot) -> bool
-    ensures { λ r. ⌜ r ≡ allZero slot ⌝ }
+    ensures { λ r. ⌜ r ≡ allZero currentRules slot ⌝ }
 {
     let sizes = both(
         slot.steps == 0,
-        both(slot.left == 0, both(slot.width == 0, slot.height == 0)),
+        both(
+            slot.left == 0,
+            both(slot.width == 0, both(slot.height == 0, slot.free == 0)),
+        ),
     );
     both(
         is_zero(slot.xx),
@@ -146,15 +132,19 @@ fn all_zero(slot: Slot) -> bool
     )
 }
 
+// That a kernel exists follows from f between its bounds, so it is not tested by itself.
 fn filled_fine(last: u64, slot: Slot) -> bool
-    ensures { λ r. ⌜ r ≡ filledFine last slot ⌝ }
+    ensures { λ r. ⌜ r ≡ filledFine currentRules last slot ⌝ }
 {
     let numbers = both(slot.number <= last, slot.left <= slot.steps);
     let sides = both(
         limits::sides_in_range(slot.width, slot.height),
         both(limits::fits_buffer(slot.width, slot.height), numbers),
     );
-    both(has_kernel(slot.xx, slot.xy, slot.yy, slot.steps), sides)
+    both(
+        kernel::free_fits(slot.xx, slot.xy, slot.yy, slot.free, slot.steps),
+        sides,
+    )
 }
 
 // The numbers of the slots. They are handed on where the whole record would be copied for each slot.
@@ -187,9 +177,9 @@ fn is_new(numbers: [u64; SLOTS], number: u64, places: usize) -> bool
 }
 
 // A number that no slot shares with an earlier one is shared with none.
-fn slot_fine(last: u64, numbers: [u64; SLOTS], place: usize, slot: Slot) -> bool
+pub fn slot_fine(last: u64, numbers: [u64; SLOTS], place: usize, slot: Slot) -> bool
     requires { ⌜ place < slotCount ⌝ }
-    ensures { λ r. ⌜ r ≡ slotFineAfter last numbers place slot ⌝ }
+    ensures { λ r. ⌜ r ≡ slotFineAfter currentRules last numbers place slot ⌝ }
 {
     if slot.number == 0 {
         return all_zero(slot);

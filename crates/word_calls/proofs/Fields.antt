@@ -1,9 +1,10 @@
 -- The state machine's record, at every place of a list, is within the fields of its words. Assumes nothing.
-use mathlib.Core.Path.{_≡_, sym, _∙_}
-use mathlib.Core.Bool.{true, true≢false}
+use mathlib.Core.Path.{_≡_, refl, sym, _∙_, ap}
+use mathlib.Core.Bool.{Bool, true, false, cond, true≢false}
 use mathlib.Core.Logic.{inl, inr}
 use mathlib.Core.List.{List}
-use Prim.Native.Nat.{ℕ, _^_, _<_, _≤_}
+use Prim.Native.Nat.{ℕ, _*_, _^_, _<_, _≤_}
+use native.Mathlib.Nat.{mul-le-mul-left}
 use native.Mathlib.Omega.{arith}
 use lib.IntN.{ℤ, pos, negsuc, natAbs}
 use mir.Syntax.{w32}
@@ -13,11 +14,15 @@ use Rattle.limits.proofs.Laws.{both-true, in-range}
 use Rattle.kernel.specs.Molecule.{unitsOf}
 use Rattle.kernel.specs.Existence.{kernelExists}
 use Rattle.kernel.proofs.Plain.{none-x, none-y}
+use Rattle.kernel.specs.declared.Choice.{Choice}
+use Rattle.kernel.specs.Choice.{freeBy}
 use Rattle.kernel.proofs.Theorems.{unsigned-conditions}
+use Rattle.kernel.proofs.Bounds.{choice-fits, fits-small}
 use Rattle.covariance.specs.Shapes.{covarianceXX, covarianceXY, covarianceYY}
 use Rattle.machine.specs.declared.Slot.{Slot}
 use Rattle.machine.specs.Rules.{Rules}
-use Rattle.machine.specs.Slots.{slotCount, slotAt, emptySlot}
+use Rattle.machine.specs.Slots.{slotAt, emptySlot}
+use Rattle.machine.specs.Store.{storeBuffers, Workable}
 use Rattle.machine.specs.History.{Event, Place, jobOf}
 use Rattle.machine.proofs.Invariant.{Invariant, Sits, Taken}
 use Rattle.record_words.proofs.ReadBack.{SlotFits, Fits}
@@ -32,8 +37,8 @@ signed : (z : ℤ) (m : ℕ) → natAbs z ≤ m → m < 2 ^ 31 → SFits w32 z
 signed (pos n) m h g = record { sfits = omega arith }
 signed (negsuc n) m h g = record { sfits = omega arith }
 
-empty-fits : SlotFits emptySlot
-empty-fits =
+empty-fits : (rules : Rules) → SlotFits rules emptySlot
+empty-fits rules =
     record {
       xx-fits = signed (pos 0) 0 (omega arith) (omega arith);
       xy-fits = signed (pos 0) 0 (omega arith) (omega arith);
@@ -42,9 +47,18 @@ empty-fits =
       left-fits = omega arith;
       width-fits = omega arith;
       height-fits = omega arith;
+      free-fits = omega arith;
+      free-none = λ e. refl;
     }
 
-sits-fits : (rules : Rules) (es : List Event) (store : List ℕ) (i n : ℕ) (s : Slot) → Sits rules es store i n s → SlotFits s
+-- f of a choice is at most M, and there is none by rules without a choice
+free-small : (choice : Choice) (xx xy yy : ℤ) (k : ℕ) → kernelExists xx xy yy (unitsOf k) ≡ true → unitsOf k < 2 ^ 31 → (t : Bool)
+    → cond t (freeBy choice xx xy yy k) 0 < 2 ^ 32
+free-small choice xx xy yy k e m true =
+    let s = fits-small xx xy yy (freeBy choice xx xy yy k) (unitsOf k) (choice-fits choice xx xy yy k e) in omega arith
+free-small choice xx xy yy k e m false = omega arith
+
+sits-fits : (rules : Rules) (es : List Event) (store : List ℕ) (i n : ℕ) (s : Slot) → Sits rules es store i n s → SlotFits rules s
 sits-fits rules es store i n s sits =
     let j = jobOf es n in
     let f = sits .fine in
@@ -63,19 +77,28 @@ sits-fits rules es store i n s sits =
       left-fits = omega arith;
       width-fits = omega arith;
       height-fits = omega arith;
+      free-fits = free-small (j .choice) (covarianceXX (j .shape)) (covarianceXY (j .shape)) (covarianceYY (j .shape)) (j .steps) (f .kernel) m (rules .holdsChoice);
+      free-none = λ e. ap (λ (t : Bool). cond t (freeBy (j .choice) (covarianceXX (j .shape)) (covarianceXY (j .shape)) (covarianceYY (j .shape)) (j .steps)) 0) e;
     }
     )
 
--- of as many slots as the words have place for
-pub record-fits : (p : Place) → Invariant p → p .rules .slotCount ≡ slotCount → Fits (p .service)
-record-fits p v size =
+-- no more slots than the store has buffers
+few-slots : (rules : Rules) → Workable rules → rules .slotCount ≤ storeBuffers
+few-slots rules w =
+    let some = w .some-buffer in
+    let m : rules .slotCount * 1 ≤ rules .slotCount * rules .buffersPerSlot = mul-le-mul-left (rules .slotCount) (omega arith) in
+    omega (arith, w .in-store)
+
+pub record-fits : (p : Place) → Invariant p → Fits (p .rules) (p .service)
+record-fits p v =
+    let few = few-slots (p .rules) (v .workable) in
     record {
-      as-many = v .as-many ∙ size;
-      slots-fit = λ i h. of i (slotAt (p .service) i) (v .taken i (rw size h));
+      as-many = v .as-many;
+      slots-fit = λ i h. of i (slotAt (p .service) i) (v .taken i h);
       filled-fits = let l = v .filled in omega arith;
       served-fits = let l = v .served in omega arith;
     }
   where
-    of : (i : ℕ) (s : Slot) → Taken (p .rules) (p .history) (p .store) i s → SlotFits s
-    of i s (inl e) = rw e empty-fits
+    of : (i : ℕ) (s : Slot) → Taken (p .rules) (p .history) (p .store) i s → SlotFits (p .rules) s
+    of i s (inl e) = rw e (empty-fits (p .rules))
     of i s (inr w) = sits-fits (p .rules) (p .history) (p .store) i (w .0) s (w .1)

@@ -1,73 +1,63 @@
 -- A call of the state machine through words. Assumes nothing.
-use mathlib.Core.Path.{_≡_, refl, sym, _∙_, ap}
+use mathlib.Core.Path.{_≡_, _∙_, ap}
 use mathlib.Core.Bool.{true, false}
 use mathlib.Core.List.{List}
-use Prim.Native.Nat.{ℕ, _<_}
+use Prim.Native.Nat.{ℕ}
 use Rattle.limits.specs.declared.ErrorCode.the-variants.{RecordOutOfOrder}
 use Rattle.machine.specs.declared.FreeCount.the-variants as FreeCount
 use Rattle.machine.specs.declared.Service.{Service}
-use Rattle.machine.specs.declared.Answer.{Answer}
-use Rattle.machine.specs.declared.Answer.the-variants.{Job, Idle, Refused}
-use Rattle.machine.specs.Rules.{currentRules}
-use Rattle.machine.specs.Slots.{slotCount}
+use Rattle.machine.specs.Rules.{Rules, currentRules}
 use Rattle.machine.specs.Answers.{answerNumber}
 use Rattle.machine.specs.Calls.{Result, freeCountOf}
-use Rattle.service.specs.Called.{calledOf, afterTurn}
+use Rattle.service.specs.Called.{calledOf}
 use Rattle.service.specs.declared.Called.{Called}
 use Rattle.record_words.specs.Words.{fieldsFit, serviceOf}
-use Rattle.record_words.proofs.Turns.{turn-written}
-use Rattle.word_calls.specs.Exported.{numberAfter, wordsAfter, wordsAfterTurn, throughWords, Leaves, countWords}
+use Rattle.word_calls.specs.Exported.{numberAfter, wordsAfter, throughWords, Leaves, countWords}
 
 -- ---- the free count through words
-pub count-unfit : (words : List ℕ) → fieldsFit words ≡ false → countWords words ≡ FreeCount.Refused RecordOutOfOrder
+pub count-unfit : (words : List ℕ) → fieldsFit currentRules words ≡ false → countWords currentRules words ≡ FreeCount.Refused RecordOutOfOrder
 unfolding countWords
 count-unfit words e = rw e
 
-pub count-fit : (words : List ℕ) → fieldsFit words ≡ true → (r : Service) → r ≡ serviceOf words → countWords words ≡ freeCountOf currentRules r
+pub count-fit : (rules : Rules) (words : List ℕ) → fieldsFit rules words ≡ true → (r : Service) → r ≡ serviceOf rules words
+    → countWords rules words ≡ freeCountOf rules r
 unfolding countWords
-count-fit words e r held = rw (e, held)
+count-fit rules words e r held = rw (e, held)
 
 -- ---- calls through words
 module _ (call : Service → Result) (words : List ℕ) (old : ℕ) (store lent : List ℕ) where
   -- where the words hold no record
-  module _ (unfit : fieldsFit words ≡ false) where
-    pub unfit-leaves : Leaves (throughWords call words old store lent) 2 words old
+  module _ (unfit : fieldsFit currentRules words ≡ false) where
+    pub unfit-leaves : Leaves (throughWords currentRules call words old store lent) 2 words old
     unfolding throughWords
     unfit-leaves = record { code-is = rw unfit; words-are = rw unfit; number-is = rw unfit }
 
-    pub unfit-store : store ≡ throughWords call words old store lent .store
+    pub unfit-store : store ≡ throughWords currentRules call words old store lent .store
     unfolding throughWords
     unfit-store = rw unfit
 
-    pub unfit-lent : lent ≡ throughWords call words old store lent .lent
+    pub unfit-lent : lent ≡ throughWords currentRules call words old store lent .lent
     unfolding throughWords
     unfit-lent = rw unfit
 
   -- where they hold the record r
-  module _ (fit : fieldsFit words ≡ true) (r : Service) (held : r ≡ serviceOf words) where
+  module _ (fit : fieldsFit currentRules words ≡ true) (r : Service) (held : r ≡ serviceOf currentRules words) where
     pub fit-leaves : (called : Called) (code : ℕ) (after : List ℕ) (number : ℕ) → called ≡ calledOf (call r)
-        → (code ≡ answerNumber (called .answer)) × ((after ≡ wordsAfter (called .answer) (called .service) words) × (number ≡ numberAfter (called .answer) old))
-        → Leaves (throughWords call words old store lent) code after number
+        → (code ≡ answerNumber (called .answer)) × ((after ≡ wordsAfter currentRules (called .answer) (called .service) words) × (number ≡ numberAfter (called .answer) old))
+        → Leaves (throughWords currentRules call words old store lent) code after number
     unfolding throughWords
     fit-leaves called code after number e h =
-        let is : called ≡ calledOf (call (serviceOf words)) = rw held at e in
+        let is : called ≡ calledOf (call (serviceOf currentRules words)) = rw held at e in
         record {
           code-is = rw fit (h .0 ∙ ap (λ (x : Called). answerNumber (x .answer)) is);
-          words-are = rw fit (h .1 .0 ∙ ap (λ (x : Called). wordsAfter (x .answer) (x .service) words) is);
+          words-are = rw fit (h .1 .0 ∙ ap (λ (x : Called). wordsAfter currentRules (x .answer) (x .service) words) is);
           number-is = rw fit (h .1 .1 ∙ ap (λ (x : Called). numberAfter (x .answer) old) is);
         }
 
-    pub fit-store : (after : List ℕ) → after ≡ call r .store → after ≡ throughWords call words old store lent .store
+    pub fit-store : (after : List ℕ) → after ≡ call r .store → after ≡ throughWords currentRules call words old store lent .store
     unfolding throughWords
     fit-store after e = rw fit (rw held at e)
 
-    pub fit-lent : (after : List ℕ) → after ≡ call r .lent → after ≡ throughWords call words old store lent .lent
+    pub fit-lent : (after : List ℕ) → after ≡ call r .lent → after ≡ throughWords currentRules call words old store lent .lent
     unfolding throughWords
     fit-lent after e = rw fit (rw held at e)
-
--- ---- a tick's words: of those that hold the record before it two are replaced
-module _ (words : List ℕ) (fit : fieldsFit words ≡ true) (r : Service) (held : r ≡ serviceOf words) where
-  pub turn-words : (answer : Answer) (i left : ℕ) → i < slotCount → wordsAfterTurn answer i left words ≡ wordsAfter answer (afterTurn answer r i left) words
-  turn-words (Job n) i left h = sym (turn-written words fit i left h r held)
-  turn-words Idle i left h = refl
-  turn-words (Refused code) i left h = refl

@@ -67,9 +67,9 @@ module _ (p : Place) (v : Invariant p) where
   tick-some (served i n e h s u l t d) a = let w = d .answered in let x = s .positive in let z : n ≡ 0 = cc in omega arith
 
   pub some-job : (c : Call) → answerAt p c ≡ Job 0 → ⊥
-  some-job (submit shape k w h pixels) e =
+  some-job (submit choice shape k w h pixels) e =
       unless-some (submitOutcome (p .rules) (p .history) shape k w h pixels) (jobCount (p .history) + 1) (omega arith)
-      (sym (submits p v shape k w h pixels .answered) ∙ e)
+      (sym (submits p v choice shape k w h pixels .answered) ∙ e)
   some-job tick e = tick-some (ticked p v) e
   some-job (collect n lent) e =
       held-some n

@@ -3,6 +3,8 @@
 //! `VOKHSAOT_SEED` (default 1) chooses other inputs, `VOKHSAOT_TIMES` (default 1) so many times as many.
 #![allow(dead_code)]
 
+pub mod services;
+
 use reference::error_code::ErrorCode;
 use reference::kernel::{Choice as ModelChoice, Covariance as ModelCovariance};
 use reference::random::Random;

@@ -2,7 +2,7 @@
 //! in different calls.
 
 use super::faults::{
-    CollectFault, Fault, FreeFault, StepFault, SubmitFault, TurnFault, WithdrawFault,
+    ChangeFault, CollectFault, Fault, FreeFault, StepFault, SubmitFault, TurnFault, WithdrawFault,
 };
 
 /// A fault with its answer. The tests see that all of it is so.
@@ -10,7 +10,7 @@ pub struct Exercise {
     pub fault: Fault,
     /// What is wrong.
     pub fault_text: &'static str,
-    /// Calls that show the fault, each with how often it stands there.
+    /// Lines of a list that shows the fault, each with how often it stands there.
     pub calls: &'static [(usize, &'static str)],
     /// Whether three jobs, ticks until idle, collects of all and the free count would have shown it.
     pub shown_by_panel: bool,
@@ -21,7 +21,16 @@ pub struct Exercise {
 /// The smallest job.
 const ONE_PIXEL: &str = "submit round 1 steps 1 size 1 1 pixels 7";
 
-pub const EXERCISES: [Exercise; 33] = [
+/// A bright pixel, in a step of which the two choices of f differ: 0 with the smallest, 1024 with the other.
+const SPOT: &str = "submit round 0.5 steps 1 size 3 3 pixels 0 0 0 0 1600 0 0 0 0";
+const SPOT_BY_SMALLEST: &str =
+    "submit round 0.5 steps 1 choice smallest size 3 3 pixels 0 0 0 0 1600 0 0 0 0";
+
+/// By the old rules; an answer is read line by line, so it says so.
+const OLD: &str = "rules old";
+const CHANGE: &str = "change over";
+
+pub const EXERCISES: [Exercise; 44] = [
     Exercise {
         fault: Fault::Collect(CollectFault::RefusesAll),
         fault_text: "Collect refuses every job, finished or not, with 8.",
@@ -389,6 +398,152 @@ pub const EXERCISES: [Exercise; 33] = [
             (6, ONE_PIXEL),
             (1, "submit round 1 steps 2 size 1 1 pixels 7"),
             (1, "tick 8"),
+            (1, "collect 1"),
+        ],
+        shown_by_panel: false,
+        shown_by_lone_job: false,
+    },
+    Exercise {
+        fault: Fault::Change(ChangeFault::OtherF),
+        fault_text: "The change-over gives each job held the f of the choice binomial, not the smallest.",
+        calls: &[
+            (1, OLD),
+            (1, SPOT),
+            (1, CHANGE),
+            (1, "tick"),
+            (1, "collect 1"),
+        ],
+        shown_by_panel: false,
+        shown_by_lone_job: false,
+    },
+    Exercise {
+        fault: Fault::Step(StepFault::UsualChoice),
+        fault_text: "Tick makes the kernel anew from the shape, by the choice binomial, and does not heed the f of the seat.",
+        calls: &[
+            (1, SPOT_BY_SMALLEST),
+            (1, "tick"),
+            (1, "collect 1"),
+        ],
+        shown_by_panel: false,
+        shown_by_lone_job: false,
+    },
+    Exercise {
+        fault: Fault::Change(ChangeFault::ResetsNamedSeats),
+        fault_text: "The change-over sets the seat last filled and the seat last served to 7, as an opening does.",
+        calls: &[
+            (1, OLD),
+            (7, "submit round 1 steps 2 size 1 1 pixels 7"),
+            (1, ONE_PIXEL),
+            (1, "tick 7"),
+            (1, CHANGE),
+            (1, "tick 8"),
+            (1, "collect 8"),
+        ],
+        shown_by_panel: false,
+        shown_by_lone_job: false,
+    },
+    Exercise {
+        fault: Fault::Submit(SubmitFault::SmallestForBoth),
+        fault_text: "Submit stores the smallest f, whatever choice is named, or none.",
+        calls: &[
+            (1, SPOT),
+            (1, "tick"),
+            (1, "collect 1"),
+        ],
+        shown_by_panel: false,
+        shown_by_lone_job: false,
+    },
+    Exercise {
+        fault: Fault::Change(ChangeFault::RestartsNumbers),
+        fault_text: "The change-over takes the largest number held for the last one given, so that later numbers are given again.",
+        calls: &[
+            (1, OLD),
+            (2, ONE_PIXEL),
+            (1, "withdraw 2"),
+            (1, CHANGE),
+            (1, ONE_PIXEL),
+            (1, "tick 2"),
+            (1, "collect 1"),
+        ],
+        shown_by_panel: false,
+        shown_by_lone_job: false,
+    },
+    Exercise {
+        fault: Fault::Free(FreeFault::ForgetsEarlierJobs),
+        fault_text: "The free count leaves out jobs from before the change-over.",
+        calls: &[
+            (1, OLD),
+            (1, ONE_PIXEL),
+            (1, CHANGE),
+            (1, "tick"),
+            (1, "collect 1"),
+        ],
+        shown_by_panel: false,
+        shown_by_lone_job: false,
+    },
+    Exercise {
+        fault: Fault::Change(ChangeFault::RestartsJobs),
+        fault_text: "The change-over gives a job that is half done all its steps again.",
+        calls: &[
+            (1, OLD),
+            (1, "submit round 1 steps 3 size 2 1 pixels 0 1000"),
+            (1, "tick 2"),
+            (1, CHANGE),
+            (1, "tick 3"),
+            (1, "collect 1"),
+        ],
+        shown_by_panel: false,
+        shown_by_lone_job: false,
+    },
+    Exercise {
+        fault: Fault::Collect(CollectFault::RefusesEarlierJobs),
+        fault_text: "Collect refuses finished jobs from before the change-over with 7.",
+        calls: &[
+            (1, OLD),
+            (1, ONE_PIXEL),
+            (1, "tick"),
+            (1, CHANGE),
+            (1, "collect 1"),
+        ],
+        shown_by_panel: false,
+        shown_by_lone_job: false,
+    },
+    Exercise {
+        fault: Fault::Change(ChangeFault::ZeroF),
+        fault_text: "The change-over leaves f 0 in every seat: where that is none of a filled seat's, the record is out of order, and every later call is refused with 2.",
+        calls: &[
+            (1, OLD),
+            (1, "submit matrix 1000 1000 1000 steps 1 size 1 1 pixels 7"),
+            (1, CHANGE),
+            (1, "tick"),
+            (1, "collect 1"),
+        ],
+        shown_by_panel: false,
+        shown_by_lone_job: false,
+    },
+    Exercise {
+        fault: Fault::Turn(TurnFault::IdleUntilSubmit),
+        fault_text: "After the change-over ticks are idle until a job is submitted.",
+        calls: &[
+            (1, OLD),
+            (1, ONE_PIXEL),
+            (1, CHANGE),
+            (1, "tick"),
+            (1, ONE_PIXEL),
+            (1, "tick 2"),
+            (1, "collect 1"),
+        ],
+        shown_by_panel: false,
+        shown_by_lone_job: false,
+    },
+    Exercise {
+        fault: Fault::Change(ChangeFault::AcceptedTwice),
+        fault_text: "A change-over of a service that runs by the new rules is accepted, and gives each job held the smallest f.",
+        calls: &[
+            (1, "rules new"),
+            (1, SPOT),
+            (1, CHANGE),
+            (1, "tick"),
             (1, "collect 1"),
         ],
         shown_by_panel: false,

@@ -10,6 +10,7 @@ pub enum Fault {
     Collect(CollectFault),
     Withdraw(WithdrawFault),
     Free(FreeFault),
+    Change(ChangeFault),
 }
 
 #[derive(Clone, Copy, Debug, PartialEq, Eq)]
@@ -21,6 +22,7 @@ pub enum SubmitFault {
     FullAtSeven,
     FillsFromFirst,
     LastPixelNotCopied,
+    SmallestForBoth,
 }
 
 /// Of a tick: whose turn it is, and when it is idle.
@@ -31,6 +33,7 @@ pub enum TurnFault {
     SkipsFirst,
     BeginsAtFirst,
     IdleMovesOn,
+    IdleUntilSubmit,
 }
 
 /// Of a tick: the pixels that its step leaves.
@@ -46,6 +49,7 @@ pub enum StepFault {
     EvenGrey,
     PixelsInPairs,
     SumOf32Bits,
+    UsualChoice,
 }
 
 #[derive(Clone, Copy, Debug, PartialEq, Eq)]
@@ -56,6 +60,7 @@ pub enum CollectFault {
     StepBefore,
     WritesUnfinished,
     ClearsBuffers,
+    RefusesEarlierJobs,
 }
 
 #[derive(Clone, Copy, Debug, PartialEq, Eq)]
@@ -69,4 +74,16 @@ pub enum FreeFault {
     AlwaysSixteen,
     ForgetsWithdraws,
     FinishedAreFree,
+    ForgetsEarlierJobs,
+}
+
+/// Of the record that a change-over leaves.
+#[derive(Clone, Copy, Debug, PartialEq, Eq)]
+pub enum ChangeFault {
+    OtherF,
+    ZeroF,
+    ResetsNamedSeats,
+    RestartsNumbers,
+    RestartsJobs,
+    AcceptedTwice,
 }

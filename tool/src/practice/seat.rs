@@ -1,11 +1,9 @@
 //! A filled seat, read from the words of a record.
 
-use crate::model::choice_of;
-use crate::services::JOB_CHOICE;
-use reference::kernel::{kernel_by, Covariance, Kernel};
+use reference::kernel::{free_number_by, kernel_with, Choice, Covariance, Kernel, UNITS};
 use std::ops::Range;
 use vokhsaot::{
-    BUFFER_PIXELS, SEATS, SEAT_HEIGHT, SEAT_JOB, SEAT_STEPS, SEAT_STEPS_LEFT, SEAT_WIDTH,
+    BUFFER_PIXELS, SEATS, SEAT_F, SEAT_HEIGHT, SEAT_JOB, SEAT_STEPS, SEAT_STEPS_LEFT, SEAT_WIDTH,
     SEAT_WORDS, SEAT_XX, SEAT_XY, SEAT_YY, WORD_LAST_SERVED,
 };
 
@@ -18,6 +16,7 @@ pub struct Seat {
     pub left: u32,
     pub width: u32,
     pub height: u32,
+    pub f: u32,
 }
 
 impl Seat {
@@ -39,6 +38,7 @@ impl Seat {
             left: word(SEAT_STEPS_LEFT) as u32,
             width: word(SEAT_WIDTH) as u32,
             height: word(SEAT_HEIGHT) as u32,
+            f: word(SEAT_F) as u32,
         })
     }
 
@@ -77,9 +77,22 @@ impl Seat {
         self.kernel_of(self.covariance)
     }
 
-    /// The kernel of another covariance, in as many steps.
+    /// The kernel of another covariance, in as many steps and with the same f.
     pub fn kernel_of(&self, covariance: Covariance) -> Kernel {
-        let found = kernel_by(choice_of(JOB_CHOICE), covariance, self.steps);
+        let found = kernel_with(self.f.into(), covariance, self.steps);
+        let found = found.expect("a filled seat has steps");
         found.expect("a filled seat has a kernel")
+    }
+
+    /// The f of its shape by a choice.
+    pub fn f_by(&self, choice: Choice) -> u32 {
+        let Covariance { xx, xy, yy } = self.covariance;
+        let [xx, xy, yy] = [xx, xy, yy].map(i64::from);
+        free_number_by(choice, xx, xy, yy, UNITS * i64::from(self.steps)) as u32
+    }
+
+    /// The place of one of its words in the record.
+    pub fn word(&self, field: usize) -> usize {
+        self.place * SEAT_WORDS + field
     }
 }

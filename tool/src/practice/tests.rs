@@ -3,17 +3,17 @@
 use super::faults::{CollectFault, Fault, FreeFault, StepFault, TurnFault};
 use super::*;
 use crate::judge::{Judge, Judged, Verdict};
-use crate::list::{self, Call, Pixels, Store, Submission};
+use crate::list::{self, Call, List, Pixels, Store, Submission};
 use crate::mixture::{follow, Mixture};
 use crate::model::Model;
 use crate::rules::Rule;
-use crate::services::{proved, Opening, JOB_CHOICE};
-use reference::random::Random;
+use crate::services::{choice_by, proved, Opening};
+use crate::soak::Lives;
 use std::collections::{BTreeMap, BTreeSet};
 use vokhsaot::{smooth_by, Direction, Error, Shape};
 
 /// By number, rules that the calls of an answer break. The first is among those that a soak finds broken first.
-const BROKEN: [&[Rule]; 33] = [
+const BROKEN: [&[Rule]; 44] = [
     &[Rule::FinishedCollected],
     &[Rule::SubmitAccepted],
     &[Rule::TickStore, Rule::LoneRun],
@@ -47,6 +47,21 @@ const BROKEN: [&[Rule]; 33] = [
     &[Rule::Turn, Rule::Wait],
     &[Rule::LoneRun],
     &[Rule::IdleWithStepsLeft],
+    &[Rule::ChangedF, Rule::EarlierJob, Rule::LoneService],
+    &[Rule::TickStore, Rule::LoneRun],
+    &[Rule::ChangedTurn, Rule::WaitAcross],
+    &[Rule::SubmitF, Rule::LoneRun],
+    &[Rule::ChangedTurn, Rule::NumberTwice],
+    &[Rule::FreeAcross, Rule::FreeBuffers],
+    &[
+        Rule::ChangedFields,
+        Rule::ServedWithoutSteps,
+        Rule::EarlierJob,
+    ],
+    &[Rule::FinishedCollected],
+    &[Rule::ChangedF, Rule::FreeAcross],
+    &[Rule::IdleWithStepsLeft],
+    &[Rule::ChangeRefused, Rule::LoneRun],
 ];
 
 /// The numbers and their services.
@@ -54,11 +69,8 @@ fn numbered() -> impl Iterator<Item = (usize, &'static Exercise)> {
     (1..).zip(&EXERCISES)
 }
 
-fn calls(text: &str) -> Vec<Call> {
-    let lines = list::read(text, &|name| Err(name.to_owned()))
-        .unwrap()
-        .lines;
-    lines.into_iter().map(|line| line.call).collect()
+fn read(text: &str) -> List {
+    list::read(text, &|name| Err(name.to_owned())).unwrap()
 }
 
 fn rules(judged: &Judged) -> BTreeSet<Rule> {
@@ -67,12 +79,13 @@ fn rules(judged: &Judged) -> BTreeSet<Rule> {
 
 /// The rules that a list shows to be broken, and whether `replay` would call it good.
 fn judged(opening: Opening, list: &str) -> (BTreeSet<Rule>, bool) {
-    let (mut judge, differences) = Judge::new(opening, Store::Zeros);
+    let list = read(list);
+    let (mut judge, differences) = Judge::new(opening, list.start);
     assert_eq!(differences, []);
     let mut broken = BTreeSet::new();
-    for call in calls(list) {
-        for _ in 0..call.times() {
-            broken.append(&mut rules(&judge.call(&call)));
+    for line in list.lines {
+        for _ in 0..line.call.times() {
+            broken.append(&mut rules(&judge.call(&line.call)));
         }
     }
     let verdict = Verdict {
@@ -87,15 +100,19 @@ const MOST_CALLS: u64 = 20_000;
 
 /// What `soak` finds first with this seed: at which call, and the rules that are broken there.
 fn soaked(opening: Opening, seed: u64) -> Option<(u64, BTreeSet<Rule>)> {
-    let (mut judge, differences) = Judge::new(opening, Store::Zeros);
-    assert_eq!(differences, []);
-    let mut mixture = Mixture::varied(Random::new(seed).bits());
-    while judge.counts().calls < MOST_CALLS {
-        let call = mixture.call(judge.model().record());
-        for _ in 0..call.times() {
-            let broken = rules(&judge.call(&call));
-            if !broken.is_empty() {
-                return Some((judge.counts().calls, broken));
+    let mut lives = Lives::new(seed, MOST_CALLS);
+    let mut calls = 0;
+    while calls < MOST_CALLS {
+        let mut life = lives.next();
+        let (mut judge, differences) = Judge::new(opening, life.start);
+        assert_eq!(differences, []);
+        while let Some(call) = life.call(&judge) {
+            for _ in 0..call.times() {
+                calls += 1;
+                let broken = rules(&judge.call(&call));
+                if !broken.is_empty() {
+                    return Some((calls, broken));
+                }
             }
         }
     }
@@ -114,17 +131,20 @@ fn collect(service: &mut dyn Service, trial: &Submission, number: u64) -> Result
 /// The picture that the library's run by the choice of a job shows.
 fn run_of(trial: &Submission) -> Vec<u16> {
     let Submission {
+        choice,
         shape,
         steps,
         width,
         height,
         ..
     } = *trial;
-    smooth_by(JOB_CHOICE, shape, steps, width, height, &trial.picture()).unwrap()
+    let choice = choice_by(Rules::New, choice);
+    smooth_by(choice, shape, steps, width, height, &trial.picture()).unwrap()
 }
 
 /// An odd number of steps, the job of the course's lesson on lone jobs.
 const ROUND: Submission = Submission {
+    choice: None,
     shape: Shape::Round(1.0),
     steps: 3,
     width: 8,
@@ -134,6 +154,7 @@ const ROUND: Submission = Submission {
 
 /// An even number of steps, a shape that leans, and sides that differ.
 const LEANING: Submission = Submission {
+    choice: None,
     shape: Shape::Oval {
         long_variance: 2.0,
         short_variance: 1.0,
@@ -155,7 +176,7 @@ fn ticks_until_idle(service: &mut dyn Service) -> bool {
 
 /// Three jobs, ticks until idle, collects of all: all is accepted, all buffers are free, and the service is idle.
 fn passes_panel(opening: Opening) -> bool {
-    let mut service = opening(Store::Zeros.pixels());
+    let mut service = opening(Rules::New, Store::Zeros.pixels());
     let service = service.as_mut();
     let trials = [ROUND, LEANING, ROUND];
     let Ok(numbers) = trials
@@ -174,7 +195,7 @@ fn passes_panel(opening: Opening) -> bool {
 /// Each alone in a new service, handed over as the library's run shows it.
 fn passes_lone_jobs(opening: Opening) -> bool {
     [ROUND, LEANING].iter().all(|trial| {
-        let mut service = opening(Store::Zeros.pixels());
+        let mut service = opening(Rules::New, Store::Zeros.pixels());
         let service = service.as_mut();
         let Ok(number) = submit(service, trial) else {
             return false;
@@ -214,21 +235,23 @@ fn done(
         }
         Call::Withdraw(number) => (format!("{:?}", service.withdraw(*number)), Vec::new()),
         Call::Free => (format!("{:?}", service.free()), Vec::new()),
+        Call::ChangeOver => (format!("{:?}", service.change_over()), Vec::new()),
     }
 }
 
-/// In what a service differs from the proved one in a mixture of calls.
+/// In what a service differs from the proved one in a mixture of calls with a change-over early on.
 fn apart(opening: Opening, seed: u64) -> BTreeSet<Part> {
-    let (mut one, mut other) = (
-        opening(Store::Zeros.pixels()),
-        proved(Store::Zeros.pixels()),
-    );
-    let mut model = Model::new();
+    let store = || Store::Zeros.pixels();
+    let (mut one, mut other) = (opening(Rules::Old, store()), proved(Rules::Old, store()));
+    let mut model = Model::open(Rules::Old, store());
     let mut mixture = Mixture::varied(seed);
     let mut areas = BTreeMap::new();
     let mut apart = BTreeSet::new();
-    for _ in 0..2000 {
-        let call = mixture.call(model.record());
+    for line in 0..2000 {
+        let call = match line {
+            40 => Call::ChangeOver,
+            _ => mixture.call(model.record()),
+        };
         for _ in 0..call.times() {
             let (answer, picture) = done(one.as_mut(), &call, &areas);
             let (due_answer, due_picture) = done(other.as_mut(), &call, &areas);
@@ -263,11 +286,13 @@ fn exercise_of(fault: Fault) -> &'static Exercise {
 fn soak_finds_each_number() {
     for (number, exercise) in numbered() {
         for seed in 1..=3 {
-            let (call, broken) = soaked(&|store| exercise.open(store), seed)
+            let (call, broken) = soaked(&|rules, store| exercise.open(rules, store), seed)
                 .unwrap_or_else(|| panic!("{number} is not found with seed {seed}"));
+            // A job from before the change-over has sentences of its own, and a free count right after it.
+            let across = [Rule::EarlierJob, Rule::FreeAcross];
             let first = BROKEN[number - 1][0];
             assert!(
-                broken.contains(&first),
+                broken.contains(&first) || across.iter().any(|rule| broken.contains(rule)),
                 "{number} at call {call}: {broken:?}"
             );
         }
@@ -278,7 +303,7 @@ fn soak_finds_each_number() {
 fn answers_show_each_number() {
     for (number, exercise) in numbered() {
         let list = exercise.list();
-        let (broken, is_good) = judged(&|store| exercise.open(store), &list);
+        let (broken, is_good) = judged(&|rules, store| exercise.open(rules, store), &list);
         assert!(!is_good, "{number}");
         for rule in BROKEN[number - 1] {
             assert!(broken.contains(rule), "{number}: {rule:?} of {broken:?}");
@@ -294,7 +319,12 @@ fn answers_show_each_number() {
 fn answers_can_be_replayed() {
     for (number, exercise) in numbered() {
         let text = answer_text(number - 1);
+        let calls = |text: &str| -> Vec<Call> {
+            let lines = read(text).lines.into_iter();
+            lines.map(|line| line.call).collect()
+        };
         assert_eq!(calls(&text), calls(&exercise.list()), "{number}");
+        assert_eq!(read(&text).start, read(&exercise.list()).start, "{number}");
         assert!(text.starts_with(&format!("# Service {number}: ")), "{text}");
         assert!(!text.contains("slot"), "{text}");
     }
@@ -303,7 +333,7 @@ fn answers_can_be_replayed() {
 #[test]
 fn panel_and_lone_jobs_show_what_the_answers_say() {
     for (number, exercise) in numbered() {
-        let opening = |store| exercise.open(store);
+        let opening = |rules, store| exercise.open(rules, store);
         let passes = (passes_panel(&opening), passes_lone_jobs(&opening));
         let shown = (exercise.shown_by_panel, exercise.shown_by_lone_job);
         assert_eq!(passes, (!shown.0, !shown.1), "{number}");
@@ -326,10 +356,10 @@ fn proved_service_passes_all() {
 #[test]
 fn trials_can_fail() {
     let refusing = exercise_of(Fault::Collect(CollectFault::RefusesAll));
-    assert!(!passes_panel(&|store| refusing.open(store)));
+    assert!(!passes_panel(&|rules, store| refusing.open(rules, store)));
     let grey = exercise_of(Fault::Step(StepFault::EvenGrey));
-    assert!(passes_panel(&|store| grey.open(store)));
-    assert!(!passes_lone_jobs(&|store| grey.open(store)));
+    assert!(passes_panel(&|rules, store| grey.open(rules, store)));
+    assert!(!passes_lone_jobs(&|rules, store| grey.open(rules, store)));
 }
 
 /// Five services that `replay` once passed, or found by their pixels alone, and the sentences that they have to break in a
@@ -351,7 +381,7 @@ fn services_that_once_passed() {
         (Fault::Step(StepFault::CountsOnly), Rule::LoneRun),
     ] {
         let exercise = exercise_of(fault);
-        let (broken, is_good) = judged(&|store| exercise.open(store), list);
+        let (broken, is_good) = judged(&|rules, store| exercise.open(rules, store), list);
         assert!(broken.contains(&rule) && !is_good, "{fault:?}: {broken:?}");
     }
     assert_eq!(judged(&proved, list), (BTreeSet::new(), true));
@@ -362,7 +392,7 @@ fn services_that_once_passed() {
 #[test]
 fn faults_keep_to_their_part() {
     for (number, exercise) in numbered() {
-        let parts = apart(&|store| exercise.open(store), 1);
+        let parts = apart(&|rules, store| exercise.open(rules, store), 1);
         let due: &[Part] = match exercise.fault {
             Fault::Step(StepFault::AllStepsEarly | StepFault::PixelsInPairs)
             | Fault::Collect(CollectFault::ClearsBuffers) => &[Part::Store],
@@ -374,7 +404,11 @@ fn faults_keep_to_their_part() {
             ) => &[Part::Picture],
             Fault::Free(_) => &[Part::Free],
             // Other answers make other records, and so on.
-            Fault::Submit(_) | Fault::Turn(_) | Fault::Withdraw(_) | Fault::Collect(_) => continue,
+            Fault::Submit(_)
+            | Fault::Turn(_)
+            | Fault::Withdraw(_)
+            | Fault::Collect(_)
+            | Fault::Change(_) => continue,
         };
         assert_eq!(parts, due.iter().copied().collect(), "{number}");
     }

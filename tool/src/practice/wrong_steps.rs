@@ -2,7 +2,7 @@
 
 use super::faults::StepFault;
 use super::seat::Seat;
-use reference::kernel::{Covariance, Kernel, OFFSETS};
+use reference::kernel::{kernel_by, Choice, Covariance, Kernel, OFFSETS};
 use reference::smooth::{at, nearest, places, rounded_run, step};
 
 /// A service before the tick that serves a seat.
@@ -70,6 +70,7 @@ impl StepFault {
             StepFault::BufferOfWithdrawn => buffer_of_withdrawn(stage),
             StepFault::OvalsLeanOver => leaned_over(stage),
             StepFault::RowBelow => row_below(stage),
+            StepFault::UsualChoice => usual_choice(stage),
             StepFault::CountsOnly => Some(stage.picture_after(stage.seat.done() + 1).to_vec()),
             StepFault::EvenGrey => Some(even_grey(stage)),
             StepFault::HalvesDown => Some(stage.divided(halves_down)),
@@ -152,6 +153,15 @@ fn row_below(stage: &Stage) -> Option<Vec<u16>> {
     let mut next = step(&stage.seat.kernel(), longer, width, height + 1);
     next.truncate(stage.seat.area());
     Some(next)
+}
+
+/// The kernel is made anew from the shape, by the choice of who names none.
+fn usual_choice(stage: &Stage) -> Option<Vec<u16>> {
+    let Seat {
+        covariance, steps, ..
+    } = stage.seat;
+    let kernel = kernel_by(Choice::Binomial, covariance, steps).ok()?;
+    Some(stage.step_with(&kernel, stage.picture()))
 }
 
 fn even_grey(stage: &Stage) -> Vec<u16> {

@@ -10,7 +10,7 @@ trap 'rm -rf "$work"' EXIT
 
 # The proved calls under other names, and the faulty ones beside them.
 renamed=()
-for call in opening tick collect withdraw free_count run_matrix_by; do
+for call in opening tick collect withdraw free_count change_over run_matrix_by; do
     renamed+=(--redefine-sym "vokhsaot_$call=proved_$call")
 done
 objcopy "${renamed[@]}" "$library/libcapi.a" "$work/libcapi.a"
@@ -36,6 +36,15 @@ echo 'P2 3 3 1600  0 0 0  0 1600 0  0 0 0' >"$work/spot.pgm"
 echo 'P2 3 3 1600  0 400 0  400 0 400  0 400 0' >"$work/hollow.pgm"
 cat >"$work/one-step.list" <<'LIST'
 submit matrix 2048 0 2048 steps 1 size 3 3 pixels 0 0 0 0 1600 0 0 0 0
+tick
+collect 1
+LIST
+
+# A job that is half done when its unit changes over.
+cat >"$work/change.list" <<'LIST'
+submit matrix 2048 0 2048 steps 2 size 3 3 seed 1
+tick
+change over
 tick
 collect 1
 LIST
@@ -70,12 +79,22 @@ by_smallest=(compare --matrix '2048,0,2048' --steps 1 --choice smallest "$work/s
 check 0 0 "library's run, steps 1: equal" "${by_smallest[@]}"
 check 11 1 "library's run, steps 1: 9 of 9 pixels DIFFER" "${by_smallest[@]}"
 check 0 0 'verdict: good: ' replay "$work/one-step.list"
-check 12 1 'WRONG STORE: buffer 1 (seat 0, job 1): pixel 0 is 100 (due: 0)' replay "$work/one-step.list"
+check 12 1 'WRONG STORE: buffer 1 (seat 0, job 1): pixel 0 is 0 (due: 100)' replay "$work/one-step.list"
 check 12 1 'job 1: DIFFERS from its lone run' replay "$work/one-step.list"
-# The heights of `steps` are ticks by the smallest f, and none of a run by another.
+# The heights of `steps` are ticks by the run's choice.
 spot_steps=(steps --matrix '2048,0,2048' --steps 1 --at '0,0' "$work/spot.pgm")
 check 5 1 "DIFFERS from the run's 0" "${spot_steps[@]}" --choice smallest
-check 5 0 'step 1  100' "${spot_steps[@]}"
+check 5 1 "DIFFERS from the run's 100" "${spot_steps[@]}"
+check 12 0 'step 1  0 ' "${spot_steps[@]}" --choice smallest
+check 12 1 "DIFFERS from the run's 100" "${spot_steps[@]}"
+# A change-over: what it answers, and what it writes.
+changing=(replay "$work/change.list")
+check 0 0 'verdict: good: ' "${changing[@]}"
+check 13 1 'WRONG RECORD: the seat last served is 7 (due: 0)' "${changing[@]}"
+check 14 1 'WRONG ANSWER: refused (2); by the list accepted was due' "${changing[@]}"
+check 15 1 'NO ANSWER: the call came back with a number that is no refusal' "${changing[@]}"
+check 16 1 "WRONG RECORD: seat 0's f is 1 (due: 0)" "${changing[@]}"
+check 16 1 'job 1: DIFFERS from its lone run' "${changing[@]}"
 
 # soak writes the list of a call that does not come back: its last call is the one.
 soaked=0

@@ -10,6 +10,7 @@ uint32_t proved_collect(uint64_t *words, size_t words_len, const uint16_t *store
                         uint16_t *picture, size_t picture_len, uint64_t *number);
 uint32_t proved_withdraw(uint64_t *words, size_t words_len, uint64_t job, uint64_t *number);
 uint32_t proved_free_count(const uint64_t *words, size_t words_len, uint32_t *count);
+uint32_t proved_change_over(const uint64_t *old_words, size_t old_words_len, uint64_t *words, size_t words_len);
 uint32_t proved_run_matrix_by(uint32_t choice, int32_t xx, int32_t xy, int32_t yy, uint32_t steps, uint32_t width,
                               uint32_t height, uint16_t *first, size_t first_len, uint16_t *second, size_t second_len);
 
@@ -27,17 +28,17 @@ uint32_t vokhsaot_free_count(const uint64_t *words, size_t words_len, uint32_t *
     return fault() == 9 ? 77 : code;
 }
 
-/* Does the only step of a job of one step again, by the choice of a run that names none: the job is the one in the first seat. */
-static void step_by_the_usual_choice(const uint64_t *words, uint16_t *store) {
+/* Does the only step of a job of one step again, by the smallest f, whatever its seat has: the job is the one in the first seat. */
+static void step_by_the_smallest(const uint64_t *words, uint16_t *store) {
     uint16_t before[VOKHSAOT_BUFFER_PIXELS];
     size_t pixels = (size_t)(words[6] * words[7]);
     memcpy(before, store, sizeof before);
-    proved_run_matrix_by(VOKHSAOT_BINOMIAL, (int32_t)words[1], (int32_t)words[2], (int32_t)words[3], 1, (uint32_t)words[6],
+    proved_run_matrix_by(VOKHSAOT_SMALLEST, (int32_t)words[1], (int32_t)words[2], (int32_t)words[3], 1, (uint32_t)words[6],
                          (uint32_t)words[7], before, pixels, store + VOKHSAOT_BUFFER_PIXELS, pixels);
 }
 
 /* 2: every third tick is idle, whatever is left. 5: a step leaves the first pixel of the store's first odd buffer one too large.
-   12: the step of a job of one step is not by the smallest f. */
+   12: the step of a job of one step is by the smallest f, whatever its choice. */
 uint32_t vokhsaot_tick(uint64_t *words, size_t words_len, uint16_t *store, size_t store_len, uint64_t *number) {
     static unsigned calls = 0;
     calls += 1;
@@ -50,7 +51,7 @@ uint32_t vokhsaot_tick(uint64_t *words, size_t words_len, uint16_t *store, size_
         store[VOKHSAOT_BUFFER_PIXELS] += 1;
     }
     if (fault() == 12 && code == 0 && *number != 0 && words[0] == *number && words[4] == 1) {
-        step_by_the_usual_choice(words, store);
+        step_by_the_smallest(words, store);
     }
     return code;
 }
@@ -90,4 +91,19 @@ uint32_t vokhsaot_opening(uint64_t *words, size_t words_len) {
         words[VOKHSAOT_WORDS - 1] = 3;
     }
     return fault() == 7 ? 2 : code;
+}
+
+/* 13: the seat last served is forgotten. 14: it refuses every record. 15: a number that is no refusal. 16: every f is one more. */
+uint32_t vokhsaot_change_over(const uint64_t *old_words, size_t old_words_len, uint64_t *words, size_t words_len) {
+    if (fault() == 14) {
+        return VOKHSAOT_RECORD_OUT_OF_ORDER;
+    }
+    uint32_t code = proved_change_over(old_words, old_words_len, words, words_len);
+    if (fault() == 13 && code == 0) {
+        words[VOKHSAOT_WORD_LAST_SERVED] = 7;
+    }
+    for (size_t seat = 0; fault() == 16 && code == 0 && seat < VOKHSAOT_SEATS; seat += 1) {
+        words[seat * VOKHSAOT_SEAT_WORDS + VOKHSAOT_SEAT_F] += words[seat * VOKHSAOT_SEAT_WORDS] != 0;
+    }
+    return fault() == 15 ? 99 : code;
 }

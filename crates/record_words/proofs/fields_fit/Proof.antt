@@ -5,6 +5,7 @@ use mathlib.Core.Path.{_≡_, sym}
 use native.Mathlib.Omega.{arith}
 use Prim.Native.Nat.{_*_, _≤_, _-_}
 use borrow.Author.Tests.{eq-eqb, ne-eqb}
+use Rattle.machine.specs.Rules.{currentRules}
 use Rattle.machine.specs.Slots.{slotCount}
 use Rattle.machine.proofs.Counts.{every-none}
 use Rattle.record_words.specs.Words.{slotWords, wordsFit, fieldsFit}
@@ -13,7 +14,7 @@ use Rattle.record_words.proofs.fields_fit.Statement.{statement}
 use Rattle.record_words.proofs.fields_fit.Tie as tie
 
 abbrev Inv-loop : tie.InvT-loop
-Inv-loop words fine₀ i₀ fine i = (i ≤ slotCount) × (fine ≡ wordsFit words (slotWords * i))
+Inv-loop words fine₀ i₀ fine i = (i ≤ slotCount) × (fine ≡ wordsFit currentRules words (slotWords currentRules * i))
 
 abbrev μ-loop : tie.MeasureT-loop
 μ-loop words fine₀ i₀ fine i = slotCount - i

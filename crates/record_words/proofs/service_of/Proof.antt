@@ -4,13 +4,14 @@ use mathlib.Core.Path.{refl}
 use native.Mathlib.Omega.{arith}
 use Prim.Native.Nat.{_-_}
 use Rattle.averaging.proofs.Images.{Filled, filled-none, filled-more, filled-all}
+use Rattle.machine.specs.Rules.{currentRules}
 use Rattle.machine.specs.Slots.{slotCount}
 use Rattle.record_words.specs.Words.{slotOf, serviceOf}
 use Rattle.record_words.proofs.service_of.Statement.{statement}
 use Rattle.record_words.proofs.service_of.Tie as tie
 
 abbrev Inv-loop : tie.InvT-loop
-Inv-loop words all₀ i₀ all i = Filled slotCount (slotOf words) all i
+Inv-loop words all₀ i₀ all i = Filled slotCount (slotOf currentRules words) all i
 
 abbrev μ-loop : tie.MeasureT-loop
 μ-loop words all₀ i₀ all i = slotCount - i
@@ -19,7 +20,7 @@ empty-slot-requires : tie.Need-empty-slot-requires Inv-loop μ-loop
 empty-slot-requires c κs = search needs
 
 loop-holds : tie.Need-loop-holds Inv-loop μ-loop
-loop-holds c = filled-none slotCount (slotOf _) _ refl
+loop-holds c = filled-none slotCount (slotOf currentRules _) _ refl
 
 slot-of-requires : tie.Need-slot-of-requires Inv-loop μ-loop
 slot-of-requires c κs = search needs
@@ -39,7 +40,7 @@ loop-less c = search needs
 loop-again : tie.Need-loop-again Inv-loop μ-loop
 loop-again c =
     let l = c .before .before in
-    filled-more slotCount (slotOf _) (l .loop .all) (l .loop .i) (l .loop .inv) (omega arith) (c .slot-of .ensures)
+    filled-more slotCount (slotOf currentRules _) (l .loop .all) (l .loop .i) (l .loop .inv) (omega arith) (c .slot-of .ensures)
 
 number-at-requires : tie.Need-number-at-requires Inv-loop μ-loop
 number-at-requires c κs = search needs
@@ -58,7 +59,7 @@ returns c =
       c .field-at2 .ensures,
       c .before .field-at .ensures,
       c .before .before .number-at .ensures,
-      filled-all slotCount (slotOf _) (l .loop .all) (l .loop .i) (l .loop .inv) (omega arith),
+      filled-all slotCount (slotOf currentRules _) (l .loop .all) (l .loop .i) (l .loop .inv) (omega arith),
     )
 
 pub service-of-spec : {M : Type 1} → statement M

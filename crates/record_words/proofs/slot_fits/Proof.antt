@@ -1,4 +1,4 @@
--- `record_words::slot_fits` meets its contract: the seven tests, in order. Assumes nothing.
+-- `record_words::slot_fits` meets its contract: the eight tests, in order. Assumes nothing.
 use borrow.Author.Needs.{needs}
 use Rattle.record_words.proofs.slot_fits.Statement.{statement}
 use Rattle.record_words.proofs.slot_fits.Tie as tie
@@ -30,6 +30,12 @@ add-narrow-4 c = search needs
 narrow-requires-4 : tie.Need-narrow-requires-4
 narrow-requires-4 c κs = search needs
 
+add-narrow-5 : tie.Need-add-narrow-5
+add-narrow-5 c = search needs
+
+narrow-requires-5 : tie.Need-narrow-requires-5
+narrow-requires-5 c κs = search needs
+
 both-requires : tie.Need-both-requires
 both-requires c κs = search needs
 
@@ -39,11 +45,8 @@ both-requires-2 c κs = search needs
 both-requires-3 : tie.Need-both-requires-3
 both-requires-3 c κs = search needs
 
-add-narrow-5 : tie.Need-add-narrow-5
-add-narrow-5 c = search needs
-
-narrow-requires-5 : tie.Need-narrow-requires-5
-narrow-requires-5 c κs = search needs
+both-requires-4 : tie.Need-both-requires-4
+both-requires-4 c κs = search needs
 
 add-narrow-6 : tie.Need-add-narrow-6
 add-narrow-6 c = search needs
@@ -57,8 +60,11 @@ add-narrow-7 c = search needs
 narrow-requires-7 : tie.Need-narrow-requires-7
 narrow-requires-7 c κs = search needs
 
-both-requires-4 : tie.Need-both-requires-4
-both-requires-4 c κs = search needs
+add-narrow-8 : tie.Need-add-narrow-8
+add-narrow-8 c = search needs
+
+narrow-requires-8 : tie.Need-narrow-requires-8
+narrow-requires-8 c κs = search needs
 
 both-requires-5 : tie.Need-both-requires-5
 both-requires-5 c κs = search needs
@@ -66,22 +72,27 @@ both-requires-5 c κs = search needs
 both-requires-6 : tie.Need-both-requires-6
 both-requires-6 c κs = search needs
 
+both-requires-7 : tie.Need-both-requires-7
+both-requires-7 c κs = search needs
+
 returns : tie.Need-returns
 returns c =
     rw (
-      c .both6 .ensures,
-      c .before .both5 .ensures,
-      c .before .before .both4 .ensures,
-      c .before .before .before .narrow7 .ensures,
-      c .before .before .before .before .narrow6 .ensures,
-      c .before .before .before .before .before .narrow5 .ensures,
-      c .before .before .before .before .before .before .both3 .ensures,
-      c .before .before .before .before .before .before .before .both2 .ensures,
-      c .before .before .before .before .before .before .before .before .both .ensures,
-      c .before .before .before .before .before .before .before .before .before .narrow4 .ensures,
-      c .before .before .before .before .before .before .before .before .before .before .narrow3 .ensures,
-      c .before .before .before .before .before .before .before .before .before .before .before .narrow2 .ensures,
-      c .before .before .before .before .before .before .before .before .before .before .before .before .narrow .ensures,
+      c .both7 .ensures,
+      c .before .both6 .ensures,
+      c .before .before .both5 .ensures,
+      c .before .before .before .narrow8 .ensures,
+      c .before .before .before .before .narrow7 .ensures,
+      c .before .before .before .before .before .narrow6 .ensures,
+      c .before .before .before .before .before .before .both4 .ensures,
+      c .before .before .before .before .before .before .before .both3 .ensures,
+      c .before .before .before .before .before .before .before .before .both2 .ensures,
+      c .before .before .before .before .before .before .before .before .before .both .ensures,
+      c .before .before .before .before .before .before .before .before .before .before .narrow5 .ensures,
+      c .before .before .before .before .before .before .before .before .before .before .before .narrow4 .ensures,
+      c .before .before .before .before .before .before .before .before .before .before .before .before .narrow3 .ensures,
+      c .before .before .before .before .before .before .before .before .before .before .before .before .before .narrow2 .ensures,
+      c .before .before .before .before .before .before .before .before .before .before .before .before .before .before .narrow .ensures,
     )
 
 pub slot-fits-spec : {M : Type 1} → statement M
@@ -97,16 +108,19 @@ slot-fits-spec =
     narrow-requires-3
     add-narrow-4
     narrow-requires-4
+    add-narrow-5
+    narrow-requires-5
     both-requires
     both-requires-2
     both-requires-3
-    add-narrow-5
-    narrow-requires-5
+    both-requires-4
     add-narrow-6
     narrow-requires-6
     add-narrow-7
     narrow-requires-7
-    both-requires-4
+    add-narrow-8
+    narrow-requires-8
     both-requires-5
     both-requires-6
+    both-requires-7
     returns)

@@ -39,20 +39,24 @@ field-at-requires-6 c κs = search needs
 field-at-requires-7 : tie.Need-field-at-requires-7
 field-at-requires-7 c κs = search needs
 
+field-at-requires-8 : tie.Need-field-at-requires-8
+field-at-requires-8 c κs = search needs
+
 returns : tie.Need-returns
 unfolding slotOf
 returns c =
-    let yy = c .before .before .before .before in
+    let yy = c .before .before .before .before .before in
     let xy = yy .before .before in
     let xx = xy .before .before in
     rw (
       passed-on (yy .signed-of3 .result) (yy .signed-of3 .ok),
       passed-on (xy .signed-of2 .result) (xy .signed-of2 .ok),
       passed-on (xx .signed-of .result) (xx .signed-of .ok),
-      c .field-at7 .ensures,
-      c .before .field-at6 .ensures,
-      c .before .before .field-at5 .ensures,
-      c .before .before .before .field-at4 .ensures,
+      c .field-at8 .ensures,
+      c .before .field-at7 .ensures,
+      c .before .before .field-at6 .ensures,
+      c .before .before .before .field-at5 .ensures,
+      c .before .before .before .before .field-at4 .ensures,
       yy .signed-of3 .ensures,
       yy .before .field-at3 .ensures,
       xy .signed-of2 .ensures,
@@ -77,4 +81,5 @@ slot-of-spec =
     field-at-requires-5
     field-at-requires-6
     field-at-requires-7
+    field-at-requires-8
     returns)

@@ -1,4 +1,4 @@
--- `record_words::slot_words` meets its contract: its eight words are the definition's, one by one; a signed field is within 32
+-- `record_words::slot_words` meets its contract: its nine words are the definition's, one by one; a signed field is within 32
 -- bits, so it passes unchanged. Assumes nothing.
 use mathlib.Core.Path.{_≡_, _∙_, ap}
 use mathlib.Core.List.{[], _∷_}
@@ -30,9 +30,12 @@ wide-requires-3 c κs = search needs
 wide-requires-4 : tie.Need-wide-requires-4
 wide-requires-4 c κs = search needs
 
+wide-requires-5 : tie.Need-wide-requires-5
+wide-requires-5 c κs = search needs
+
 returns : tie.Need-returns
 returns c =
-    let fourth = c .before .before .before in
+    let fourth = c .before .before .before .before in
     let third = fourth .before in
     let second = third .before .before in
     let first = second .before .before in
@@ -42,10 +45,11 @@ returns c =
     let xy : second .word-of2 .result ≡ ofZ w32 (slot .xy) = second .word-of2 .ensures ∙ ap (ofZ w32) (passed-on (slot .xy) (search told)) in
     let yy : third .word-of3 .result ≡ ofZ w32 (slot .yy) = third .word-of3 .ensures ∙ ap (ofZ w32) (passed-on (slot .yy) (search told)) in
     let steps : fourth .wide .result ≡ slot .steps = fourth .wide .ensures in
-    let left : c .before .before .wide2 .result ≡ slot .left = c .before .before .wide2 .ensures in
-    let width : c .before .wide3 .result ≡ slot .width = c .before .wide3 .ensures in
-    let height : c .wide4 .result ≡ slot .height = c .wide4 .ensures in
-    λ k. slot .number ∷ xx k ∷ xy k ∷ yy k ∷ steps k ∷ left k ∷ width k ∷ height k ∷ []
+    let left : c .before .before .before .wide2 .result ≡ slot .left = c .before .before .before .wide2 .ensures in
+    let width : c .before .before .wide3 .result ≡ slot .width = c .before .before .wide3 .ensures in
+    let height : c .before .wide4 .result ≡ slot .height = c .before .wide4 .ensures in
+    let free : c .wide5 .result ≡ slot .free = c .wide5 .ensures in
+    λ k. slot .number ∷ xx k ∷ xy k ∷ yy k ∷ steps k ∷ left k ∷ width k ∷ height k ∷ free k ∷ []
 
 pub slot-words-spec : {M : Type 1} → statement M
 slot-words-spec =
@@ -58,4 +62,5 @@ slot-words-spec =
     wide-requires-2
     wide-requires-3
     wide-requires-4
+    wide-requires-5
     returns)

@@ -5,6 +5,7 @@ use native.Mathlib.Omega.{arith}
 use mathlib.Core.Path.{_≡_, sym, _∙_, ap}
 use Prim.Native.Nat.{_≤_, _-_}
 use lib.ListN.{length}
+use Rattle.machine.specs.Rules.{currentRules}
 use Rattle.machine.specs.Slots.{slotCount}
 use Rattle.record_words.specs.Words.{withSlots}
 use Rattle.record_words.proofs.Laws.{slots-written-none, slots-written-more, slots-written-length}
@@ -12,7 +13,7 @@ use Rattle.record_words.proofs.write_slots.Statement.{statement}
 use Rattle.record_words.proofs.write_slots.Tie as tie
 
 abbrev Inv-loop : tie.InvT-loop
-Inv-loop words₀ service i₀ words i = (i ≤ slotCount) × (words ≡ withSlots service i words₀)
+Inv-loop words₀ service i₀ words i = (i ≤ slotCount) × (words ≡ withSlots currentRules service i words₀)
 
 abbrev μ-loop : tie.MeasureT-loop
 μ-loop words₀ service i₀ words i = slotCount - i
@@ -22,10 +23,10 @@ kept : (c : tie.At-loop Inv-loop μ-loop) → length (c .loop .words) ≡ length
 kept c =
     let s = c .before .before in
     let h : c .loop .i ≤ slotCount = c .loop .inv .0 in
-    ap length (c .loop .inv .1) ∙ slots-written-length (s .args .t2) (c .loop .i) (s .args .words .now) (omega (arith, h, s .pre))
+    ap length (c .loop .inv .1) ∙ slots-written-length currentRules (s .args .t2) (c .loop .i) (s .args .words .now) (omega (arith, h, s .pre))
 
 loop-holds : tie.Need-loop-holds Inv-loop μ-loop
-loop-holds c = (omega arith, sym (slots-written-none _ _))
+loop-holds c = (omega arith, sym (slots-written-none currentRules _ _))
 
 mul-slot : tie.Need-mul-slot Inv-loop μ-loop
 mul-slot c = search needs

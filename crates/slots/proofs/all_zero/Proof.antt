@@ -14,6 +14,9 @@ both-requires-2 c κs = search needs
 both-requires-3 : tie.Need-both-requires-3
 both-requires-3 c κs = search needs
 
+both-requires-4 : tie.Need-both-requires-4
+both-requires-4 c κs = search needs
+
 is-zero-requires : tie.Need-is-zero-requires
 is-zero-requires c κs = search needs
 
@@ -23,30 +26,31 @@ is-zero-requires-2 c κs = search needs
 is-zero-requires-3 : tie.Need-is-zero-requires-3
 is-zero-requires-3 c κs = search needs
 
-both-requires-4 : tie.Need-both-requires-4
-both-requires-4 c κs = search needs
-
 both-requires-5 : tie.Need-both-requires-5
 both-requires-5 c κs = search needs
 
 both-requires-6 : tie.Need-both-requires-6
 both-requires-6 c κs = search needs
 
+both-requires-7 : tie.Need-both-requires-7
+both-requires-7 c κs = search needs
+
 returns : tie.Need-returns
 unfolding allZero
 returns c =
-    let slot = c .before .before .before .before .before .before .before .before .before .before .before .before .before .before .before .before .args .slot in
+    let slot = c .before .before .before .before .before .before .before .before .before .before .before .before .before .before .before .before .before .before .args .slot in
     let told = c .before .before .before .before .before .before .before .before .struct-told .given in
     rw (
-      c .both6 .ensures,
-      c .before .both5 .ensures,
-      c .before .before .both4 .ensures,
+      c .both7 .ensures,
+      c .before .both6 .ensures,
+      c .before .before .both5 .ensures,
       c .before .before .before .is-zero3 .ensures,
       c .before .before .before .before .before .is-zero2 .ensures,
       c .before .before .before .before .before .before .before .is-zero .ensures,
-      c .before .before .before .before .before .before .before .before .before .both3 .ensures,
-      c .before .before .before .before .before .before .before .before .before .before .both2 .ensures,
-      c .before .before .before .before .before .before .before .before .before .before .before .both .ensures,
+      c .before .before .before .before .before .before .before .before .before .both4 .ensures,
+      c .before .before .before .before .before .before .before .before .before .before .both3 .ensures,
+      c .before .before .before .before .before .before .before .before .before .before .before .both2 .ensures,
+      c .before .before .before .before .before .before .before .before .before .before .before .before .both .ensures,
       passed-on (slot .xx) (search told),
       passed-on (slot .xy) (search told),
       passed-on (slot .yy) (search told),
@@ -59,10 +63,11 @@ all-zero-spec =
     both-requires
     both-requires-2
     both-requires-3
+    both-requires-4
     is-zero-requires
     is-zero-requires-2
     is-zero-requires-3
-    both-requires-4
     both-requires-5
     both-requires-6
+    both-requires-7
     returns)

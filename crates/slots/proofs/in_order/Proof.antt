@@ -14,7 +14,7 @@ use Rattle.slots.proofs.in_order.Statement.{statement}
 use Rattle.slots.proofs.in_order.Tie as tie
 
 abbrev Inv-loop : tie.InvT-loop
-Inv-loop service numbers fine₀ i₀ fine i = (i ≤ slotCount) × (fine ≡ everyPlace (λ k. slotFineAfter (service .last) numbers k (slotAt service k)) i)
+Inv-loop service numbers fine₀ i₀ fine i = (i ≤ slotCount) × (fine ≡ everyPlace (λ k. slotFineAfter currentRules (service .last) numbers k (slotAt service k)) i)
 
 abbrev μ-loop : tie.MeasureT-loop
 μ-loop service numbers fine₀ i₀ fine i = slotCount - i

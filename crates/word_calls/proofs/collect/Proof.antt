@@ -14,7 +14,7 @@ use Rattle.word_calls.proofs.collect.Statement.{statement}
 use Rattle.word_calls.proofs.collect.Tie as tie
 
 -- where the words hold a record
-good : (c : tie.Else1) → fieldsFit (c .before .before .before .before .before .before .args .words .now) ≡ true
+good : (c : tie.Else1) → fieldsFit currentRules (c .before .before .before .before .before .before .args .words .now) ≡ true
 good c = sym (c .before .fields-fit .ensures) ∙ not-false _ (c .if1 .left)
 
 fields-fit-requires : tie.Need-fields-fit-requires
@@ -43,7 +43,7 @@ collect-requires : tie.Need-collect-requires
 collect-requires c κs = search needs
 
 hand-out-requires : tie.Need-hand-out-requires
-hand-out-requires c κs = fit-length _ (good (c .before .before .before .before .before .before .before .before))
+hand-out-requires c κs = fit-length _ _ (good (c .before .before .before .before .before .before .before .before))
 
 same-length-2 : tie.Need-same-length-2
 same-length-2 c = search needs

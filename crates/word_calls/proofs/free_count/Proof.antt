@@ -3,6 +3,7 @@
 use mathlib.Core.Path.{_≡_, refl, sym, _∙_}
 use mathlib.Core.Bool.{true}
 use borrow.Author.Tests.{not-true, not-false}
+use Rattle.machine.specs.Rules.{currentRules}
 use Rattle.record_words.specs.Words.{fieldsFit}
 use Rattle.word_calls.specs.Exported.{countWords}
 use Rattle.word_calls.proofs.Laws.{count-unfit, count-fit}
@@ -11,12 +12,12 @@ use Rattle.word_calls.proofs.free_count.Statement.{statement}
 use Rattle.word_calls.proofs.free_count.Tie as tie
 
 -- where the words hold a record
-good : (c : tie.Else1) → fieldsFit (c .before .before .before .args .words .now) ≡ true
+good : (c : tie.Else1) → fieldsFit currentRules (c .before .before .before .args .words .now) ≡ true
 good c = sym (c .before .fields-fit .ensures) ∙ not-false _ (c .if1 .left)
 
 -- what the call counted is what the words hold
-counted : (c : tie.After-free-count) → countWords (c .before .before .before .before .before .args .words .now) ≡ c .free-count .result
-counted c = count-fit _ (good (c .before .before)) _ (c .before .service-of .ensures) ∙ sym (c .free-count .ensures)
+counted : (c : tie.After-free-count) → countWords currentRules (c .before .before .before .before .before .args .words .now) ≡ c .free-count .result
+counted c = count-fit _ _ (good (c .before .before)) _ (c .before .service-of .ensures) ∙ sym (c .free-count .ensures)
 
 fields-fit-requires : tie.Need-fields-fit-requires
 fields-fit-requires c κs = search needs

@@ -4,6 +4,7 @@ use mathlib.Core.Path.{_≡_, sym, _∙_}
 use mathlib.Core.Bool.{true}
 use borrow.Author.Tests.{not-true, not-false}
 use Rattle.machine.specs.declared.Service.{Service}
+use Rattle.kernel.specs.Choice.{choiceOf}
 use Rattle.machine.specs.Rules.{currentRules}
 use Rattle.machine.specs.Calls.{Result, submitOf}
 use Rattle.record_words.specs.Words.{fieldsFit}
@@ -14,7 +15,7 @@ use Rattle.word_calls.proofs.submit.Statement.{statement}
 use Rattle.word_calls.proofs.submit.Tie as tie
 
 -- where the words hold a record
-good : (c : tie.Else1) → fieldsFit (c .before .before .before .before .before .before .args .words .now) ≡ true
+good : (c : tie.Else1) → fieldsFit currentRules (c .before .before .before .before .before .before .args .words .now) ≡ true
 good c = sym (c .before .fields-fit .ensures) ∙ not-false _ (c .if1 .left)
 
 fields-fit-requires : tie.Need-fields-fit-requires
@@ -30,7 +31,7 @@ returns c =
     let old = a .number .now in
     let store = a .store .now in
     let lent = a .pixels .now in
-    let call : Service → Result = λ r. submitOf currentRules r (a .store .now) (a .shape) (a .steps) (a .width) (a .height) (a .pixels .now) in
+    let call : Service → Result = λ r. submitOf currentRules r (a .store .now) (choiceOf (a .choice)) (a .shape) (a .steps) (a .width) (a .height) (a .pixels .now) in
     let unfit = sym (c .before .fields-fit .ensures) ∙ not-true _ (c .if1 .taken) in (
       unfit-leaves call words old store lent unfit,
       unfit-store call words old store lent unfit,
@@ -39,11 +40,14 @@ returns c =
 service-of-requires : tie.Need-service-of-requires
 service-of-requires c κs = good (c .before)
 
-submit-requires : tie.Need-submit-requires
-submit-requires c κs = search needs
+choice-of-requires : tie.Need-choice-of-requires
+choice-of-requires c κs = search needs
+
+submit-by-requires : tie.Need-submit-by-requires
+submit-by-requires c κs = search needs
 
 hand-out-requires : tie.Need-hand-out-requires
-hand-out-requires c κs = fit-length _ (good (c .before .before .before .before .before .before .before .before))
+hand-out-requires c κs = fit-length _ _ (good (c .before .before .before .before .before .before .before .before .before))
 
 same-length-2 : tie.Need-same-length-2
 same-length-2 c = search needs
@@ -55,7 +59,8 @@ returns-2 : tie.Need-returns-2
 returns-2 c =
     let handed = c .before .before .hand-out .ensures in
     let made = c .before .before .before .before .before .before .before in
-    let read = made .before .before in
+    let read = made .before .before .before in
+    let named = made .before .before .choice-of .ensures in
     let held = read .service-of .ensures in
     let fit = good (read .before .before) in
     let a = read .before .before .before .before .before .before .before .before .args in
@@ -63,9 +68,9 @@ returns-2 c =
     let old = a .number .now in
     let store = a .store .now in
     let lent = a .pixels .now in
-    let call : Service → Result = λ r. submitOf currentRules r (a .store .now) (a .shape) (a .steps) (a .width) (a .height) (a .pixels .now) in (
-      fit-leaves call words old store lent fit _ held _ _ _ _ (made .submit .ensures .0) handed,
-      fit-store call words old store lent fit _ held _ (made .submit .ensures .1),
+    let call : Service → Result = λ r. submitOf currentRules r (a .store .now) (choiceOf (a .choice)) (a .shape) (a .steps) (a .width) (a .height) (a .pixels .now) in (
+      fit-leaves call words old store lent fit _ held _ _ _ _ (rw named at (made .submit-by .ensures .0)) handed,
+      fit-store call words old store lent fit _ held _ (rw named at (made .submit-by .ensures .1)),
     )
 
 pub submit-spec : {M : Type 1} → statement M
@@ -76,7 +81,8 @@ submit-spec =
     same-length
     returns
     service-of-requires
-    submit-requires
+    choice-of-requires
+    submit-by-requires
     hand-out-requires
     same-length-2
     same-length-3

@@ -1,24 +1,61 @@
--- `word_calls::tick` meets its contract: words that hold no record are refused before the call; the others are decoded, the turn
--- is taken on their record, and `hand_out_turn` writes what it changes. Assumes nothing.
-use mathlib.Core.Path.{_≡_, refl, sym, _∙_}
-use mathlib.Core.Bool.{true}
+-- `word_calls::tick` meets its contract: words that hold no record, or one out of order, are refused, as a store of another length is; else the slot
+-- is looked for and served, and the two words that change are written (proofs/Ticks). Assumes nothing.
+use mathlib.Core.Path.{_≡_, sym, _∙_}
+use mathlib.Core.Bool.{true, _&&_}
 use mathlib.Core.List.{[]}
-use borrow.Author.Tests.{not-true, not-false}
-use Rattle.machine.specs.declared.Service.{Service}
-use Rattle.machine.specs.Rules.{currentRules}
-use Rattle.machine.specs.Calls.{Result, tickOf}
-use Rattle.service.specs.Called.{afterTurn}
-use Rattle.service.proofs.Laws.{turn-called, turn-within}
-use Rattle.record_words.specs.Words.{fieldsFit}
-use Rattle.record_words.proofs.Laws.{fit-length}
-use Rattle.word_calls.proofs.Laws.{unfit-leaves, fit-leaves, unfit-store, fit-store, turn-words}
+use Prim.Native.Nat.{_<_}
 use borrow.Author.Needs.{needs}
+use borrow.Author.Tests.{not-true, not-false, eq-eqb, ne-eqb}
+use lib.Dec.{eqb}
+use lib.ListN.{length}
+use Rattle.machine.specs.declared.Service.{Service}
+use Rattle.machine.specs.declared.Found.the-variants.{At}
+use Rattle.machine.specs.Rules.{currentRules}
+use Rattle.machine.specs.Slots.{slotCount}
+use Rattle.machine.specs.Store.{storeLength}
+use Rattle.machine.specs.Order.{inOrder}
+use Rattle.machine.specs.Calls.{Result, tickOf, servedPlace}
+use Rattle.buffers.specs.Places.{Ready}
+use Rattle.record_words.specs.Words.{fieldsFit, serviceOf}
+use Rattle.record_words.proofs.Laws.{fit-length}
+use Rattle.word_calls.proofs.Laws.{unfit-leaves, unfit-store}
+use Rattle.word_calls.proofs.Ticks.{tick-refused, tick-idle, served-at, ready, tick-served}
 use Rattle.word_calls.proofs.tick.Statement.{statement}
 use Rattle.word_calls.proofs.tick.Tie as tie
 
 -- where the words hold a record
-good : (c : tie.Else1) → fieldsFit (c .before .before .before .before .before .args .words .now) ≡ true
-good c = sym (c .before .fields-fit .ensures) ∙ not-false _ (c .if1 .left)
+module _ (c : tie.Else1) where
+  holds : fieldsFit currentRules (c .before .before .before .before .before .args .words .now) ≡ true
+  holds = sym (c .before .fields-fit .ensures) ∙ not-false _ (c .if1 .left)
+
+-- one in order
+module _ (c : tie.Else2) where
+  orderly : inOrder currentRules (serviceOf currentRules (c .before .before .before .before .before .before .before .before .args .words .now)) ≡ true
+  orderly = sym (c .before .in-order .ensures) ∙ not-false _ (c .if2 .left)
+
+-- and the store is as long as it must be
+module _ (c : tie.Else3) where
+  good : (inOrder currentRules (serviceOf currentRules (c .before .before .before .before .before .before .before .before .before .args .words .now)) && eqb (length (c .before .before .before .before .before .before .before .before .before .args .store .now)) storeLength) ≡ true
+  good = rw (orderly (c .before), eq-eqb _ _ (c .if3 .left))
+
+-- the slot that was found
+module _ (c : tie.After-place) where
+  found : servedPlace currentRules (serviceOf currentRules (c .before .before .before .before .before .before .before .before .before .before .before .before .before .args .words .now)) ≡ At (c .place .given .0 .0)
+  found = sym (c .before .before .find-left .ensures) ∙ c .place .given .1
+
+  within : c .place .given .0 .0 < slotCount
+  within =
+      let e = c .before .before .before .before in
+      let a = e .before .before .before .before .before .before .before .before .before .args in
+      served-at (a .words .now) (a .number .now) (a .store .now) (holds (e .before .before .before .before)) (good e) (c .place .given .0 .0) found .0
+
+module _ (c : tie.After-slot-of) where
+  steps : Ready (length (c .before .before .before .before .before .before .before .before .before .before .before .before .before .before .before .before .args .store .now)) (c .slot-of .result) (c .before .before .before .place .given .0 .0)
+  steps =
+      let p = c .before .before .before in
+      let e = p .before .before .before .before in
+      let a = e .before .before .before .before .before .before .before .before .before .args in
+      ready (a .words .now) (a .number .now) (a .store .now) (holds (e .before .before .before .before)) (good e) (p .place .given .0 .0) (found p) (c .slot-of .result) (c .slot-of .ensures)
 
 fields-fit-requires : tie.Need-fields-fit-requires
 fields-fit-requires c κs = search needs
@@ -38,45 +75,71 @@ returns c =
       unfit-store call words old store [] unfit,
     )
 
-service-of-requires : tie.Need-service-of-requires
-service-of-requires c κs = good (c .before)
-
-take-turn-requires : tie.Need-take-turn-requires
-take-turn-requires c κs = search needs
-
-hand-out-turn-requires : tie.Need-hand-out-turn-requires
-hand-out-turn-requires c κs = (fit-length _ (good (c .before .before .before .before .before .before .before .before)), turn-within _ _ _ (c .before .before .before .before .take-turn .ensures .0))
+in-order-requires : tie.Need-in-order-requires
+in-order-requires c κs = holds (c .before)
 
 same-length-2 : tie.Need-same-length-2
 same-length-2 c = search needs
 
+returns-2 : tie.Need-returns-2
+returns-2 c =
+    let s = c .before .before .before in
+    let a = s .before .before .before .before .before .args in
+    tick-refused (a .words .now) (a .number .now) (a .store .now) (holds s) (rw (sym (c .before .in-order .ensures) ∙ not-true _ (c .if2 .taken)))
+
 same-length-3 : tie.Need-same-length-3
 same-length-3 c = search needs
 
-returns-2 : tie.Need-returns-2
-returns-2 c =
-    let handed = c .before .before .hand-out-turn .ensures in
-    let made = c .before .before .before .before .before .before .before in
-    let t = made .take-turn .result in
-    let is = made .take-turn .ensures .0 in
-    let read = made .before .before in
-    let r = read .service-of .result in
-    let held = read .service-of .ensures in
-    let fit = good (read .before .before) in
-    let a = read .before .before .before .before .before .before .before .args in
-    let words = a .words .now in
-    let old = a .number .now in
-    let store = a .store .now in
-    let call : Service → Result = λ r. tickOf currentRules r (a .store .now) in (
-      fit-leaves call words old store [] fit r held
-          (record { answer = t .answer; service = afterTurn (t .answer) r (t .place) (t .left) })
-          _
-          _
-          _
-          (turn-called r store t is (t .answer) refl)
-          (handed .0, (handed .1 .0 ∙ turn-words words fit r held (t .answer) (t .place) (t .left) (turn-within r store t is), handed .1 .1)),
-      fit-store call words old store [] fit r held _ (made .take-turn .ensures .1),
-    )
+returns-3 : tie.Need-returns-3
+returns-3 c =
+    let s = c .before .before .before .before in
+    let a = s .before .before .before .before .before .args in
+    tick-refused (a .words .now) (a .number .now) (a .store .now) (holds s) (rw (orderly (c .before), ne-eqb _ _ (c .if3 .taken)))
+
+find-left-requires : tie.Need-find-left-requires
+find-left-requires c κs = (holds (c .before .before .before .before .before), orderly (c .before .before))
+
+enum-known-place : tie.Need-enum-known-place
+enum-known-place c = search needs
+
+slot-of-requires : tie.Need-slot-of-requires
+slot-of-requires c κs = let p = c .before .before in (holds (p .before .before .before .before .before .before .before .before), within p)
+
+step-slot-requires : tie.Need-step-slot-requires
+step-slot-requires c κs = steps (c .before)
+
+sub-write-turn : tie.Need-sub-write-turn
+sub-write-turn c = steps (c .before .before .before .before .before .before) .left
+
+write-turn-requires : tie.Need-write-turn-requires
+write-turn-requires c κs = let p = c .before .before .before .before .before .before .before .before .before in (fit-length _ _ (holds (p .before .before .before .before .before .before .before .before)), within p)
+
+enum-told : tie.Need-enum-told
+enum-told c = search needs
+
+same-length-4 : tie.Need-same-length-4
+same-length-4 c = search needs
+
+same-length-5 : tie.Need-same-length-5
+same-length-5 c = search needs
+
+returns-4 : tie.Need-returns-4
+returns-4 c =
+    let s = c .before .before .before .before .before .before .before .before .before in
+    let p = s .before .before .before in
+    let e = p .before .before .before .before in
+    let a = e .before .before .before .before .before .before .before .before .before .args in
+    tick-served (a .words .now) (a .number .now) (a .store .now) (holds (e .before .before .before .before)) (good e) (p .place .given .0 .0) (found p) (s .slot-of .result) (s .slot-of .ensures) _ _ (c .before .before .write-turn .ensures) (c .before .before .before .before .before .before .before .step-slot .ensures)
+
+same-length-6 : tie.Need-same-length-6
+same-length-6 c = search needs
+
+returns-5 : tie.Need-returns-5
+returns-5 c =
+    let e = c .before .before .before .before in
+    let s = e .before .before .before .before in
+    let a = s .before .before .before .before .before .args in
+    tick-idle (a .words .now) (a .number .now) (a .store .now) (holds s) (good e) (sym (c .before .before .find-left .ensures) ∙ c .enum-told .given .1)
 
 pub tick-spec : {M : Type 1} → statement M
 tick-spec =
@@ -85,9 +148,20 @@ tick-spec =
     fields-fit-requires
     same-length
     returns
-    service-of-requires
-    take-turn-requires
-    hand-out-turn-requires
+    in-order-requires
     same-length-2
+    returns-2
     same-length-3
-    returns-2)
+    returns-3
+    find-left-requires
+    enum-known-place
+    slot-of-requires
+    step-slot-requires
+    sub-write-turn
+    write-turn-requires
+    enum-told
+    same-length-4
+    same-length-5
+    returns-4
+    same-length-6
+    returns-5)

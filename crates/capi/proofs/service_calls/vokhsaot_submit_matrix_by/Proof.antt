@@ -1,9 +1,9 @@
--- `service_calls::vokhsaot_submit_matrix` meets its contract: `submit` with the matrix, whose entries are within 32 bits and so pass
+-- `service_calls::vokhsaot_submit_matrix_by` meets its contract: `submit` with the matrix, whose entries are within 32 bits and so pass
 -- unchanged. Assumes nothing.
 use Rattle.slots.proofs.Laws.{passed-on}
 use borrow.Author.Needs.{needs}
-use Rattle.capi.proofs.service_calls.vokhsaot_submit_matrix.Statement.{statement}
-use Rattle.capi.proofs.service_calls.vokhsaot_submit_matrix.Tie as tie
+use Rattle.capi.proofs.service_calls.vokhsaot_submit_matrix_by.Statement.{statement}
+use Rattle.capi.proofs.service_calls.vokhsaot_submit_matrix_by.Tie as tie
 
 submit-requires : tie.Need-submit-requires
 submit-requires c κs = search needs
@@ -23,6 +23,6 @@ returns c =
       passed-on (s .args .yy) (s .fits .yy .sfits),
     ) at (c .before .before .before .before .submit .ensures)
 
-pub vokhsaot-submit-matrix-spec : {M : Type 1} → statement M
-vokhsaot-submit-matrix-spec =
+pub vokhsaot-submit-matrix-by-spec : {M : Type 1} → statement M
+vokhsaot-submit-matrix-by-spec =
     tie.close (tie.spec submit-requires same-length same-length-2 returns)

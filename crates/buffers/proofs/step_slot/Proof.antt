@@ -1,4 +1,4 @@
--- `service::step_slot` meets its contract: a filled slot has a kernel, and both its buffers lie in the store. Assumes nothing.
+-- `buffers::step_slot` meets its contract: a filled slot has a kernel, and both its buffers lie in the store. Assumes nothing.
 use mathlib.Core.Path.{_≡_, _∙_, ap}
 use Prim.Native.Nat.{_*_}
 use native.Mathlib.Omega.{arith}
@@ -6,18 +6,17 @@ use borrow.Author.Tests.{leb-true}
 use Rattle.limits.specs.Limits.{longestSide, bufferPixels, sideInRange}
 use Rattle.limits.proofs.Laws.{both-true, in-range}
 use Rattle.kernel.specs.declared.KernelAnswer.{KernelAnswer}
-use Rattle.kernel.specs.declared.Choice.the-variants.{Smallest}
-use Rattle.kernel.specs.Answer.{kernelAnswer}
-use Rattle.kernel.proofs.Answers.{present}
-use Rattle.kernel.proofs.Theorems.{sound}
+use Rattle.kernel.specs.Answer.{kernelAtAnswer}
+use Rattle.kernel.proofs.Bounds.{fits-sound}
+use Rattle.machine.specs.Rules.{currentRules}
 use Rattle.machine.specs.Calls.{kernelOfSlot}
 use Rattle.slots.proofs.Laws.{passed-on}
 use borrow.Author.Needs.{needs}
-use Rattle.service.proofs.step_slot.Statement.{statement}
-use Rattle.service.proofs.step_slot.Tie as tie
+use Rattle.buffers.proofs.step_slot.Statement.{statement}
+use Rattle.buffers.proofs.step_slot.Tie as tie
 
-kernel-by-requires : tie.Need-kernel-by-requires
-kernel-by-requires c κs = search needs
+kernel-at-requires : tie.Need-kernel-at-requires
+kernel-at-requires c κs = search needs
 
 sub-done : tie.Need-sub-done
 sub-done c = search needs
@@ -41,15 +40,16 @@ cast-step-between-2 : tie.Need-cast-step-between-2
 cast-step-between-2 c = search needs
 
 -- the kernel is the slot's
-kernel-is : (c : tie.After-kernel-by) → c .kernel-by .result .kernel ≡ kernelOfSlot (c .before .before .before .before .before .args .slot)
+kernel-is : (c : tie.After-kernel-at) → c .kernel-at .result .kernel ≡ kernelOfSlot currentRules (c .before .before .before .before .before .args .slot)
 kernel-is c =
     let s = c .before .before .before .before .before in
     let slot = s .args .slot in
     let told = c .before .before .before .struct-told .given in
     let f = s .pre .filled in
-    let answered : c .kernel-by .result ≡ kernelAnswer Smallest (slot .xx) (slot .xy) (slot .yy) (slot .steps) =
-    c .kernel-by .ensures ∙ rw (passed-on (slot .xx) (search told), passed-on (slot .xy) (search told), passed-on (slot .yy) (search told)) in
-    ap (λ (r : KernelAnswer). r .kernel) (answered ∙ present Smallest (slot .xx) (slot .xy) (slot .yy) (slot .steps) (f .steps) (f .kernel))
+    let answered : c .kernel-at .result ≡ kernelAtAnswer (slot .xx) (slot .xy) (slot .yy) (slot .free) (slot .steps) =
+    c .kernel-at .ensures ∙ rw (passed-on (slot .xx) (search told), passed-on (slot .xy) (search told), passed-on (slot .yy) (search told)) in
+    let there : kernelAtAnswer (slot .xx) (slot .xy) (slot .yy) (slot .free) (slot .steps) .kernel ≡ kernelOfSlot currentRules slot = rw (f .steps, f .free) in
+    ap (λ (r : KernelAnswer). r .kernel) answered ∙ there
 
 step-between-requires : tie.Need-step-between-requires
 step-between-requires c κs =
@@ -58,7 +58,7 @@ step-between-requires c κs =
     let f = s .pre .filled in
     let sides = both-true (sideInRange (slot .width)) (sideInRange (slot .height)) (f .sides) in
     let small = leb-true (slot .width * slot .height) bufferPixels (f .fits) in (
-      rw (kernel-is (c .before .before .before .before .before .before .before)) (record { steps = slot .steps; sound = sound (slot .xx) (slot .xy) (slot .yy) (slot .steps) (f .steps) (f .kernel) }),
+      rw (kernel-is (c .before .before .before .before .before .before .before)) (record { steps = slot .steps; sound = fits-sound (slot .xx) (slot .xy) (slot .yy) (slot .free) (slot .steps) (f .steps) (f .free) }),
       record {
         wide = in-range 1 longestSide (slot .width) (sides .0) .0;
         high = in-range 1 longestSide (slot .height) (sides .1) .0;
@@ -79,7 +79,7 @@ pub step-slot-spec : {M : Type 1} → statement M
 step-slot-spec =
     tie.close
     (tie.spec
-    kernel-by-requires
+    kernel-at-requires
     sub-done
     cast-done
     buffer-after-requires
