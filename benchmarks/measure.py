@@ -17,6 +17,8 @@ except ImportError:
     cv2 = None
 
 ROUNDS = 31
+# Bytes that a job text may have.
+LONGEST_TEXT = 16386
 SHAPE = (9000, 2001, 7000)
 # The choices as the exported calls number them: a caller who names none gets the first; the jobs whose ticks are measured name the second.
 BINOMIAL, SMALLEST = 0, 1
@@ -270,8 +272,10 @@ def growth(proved):
 def texts(library, program):
     """The longest text, by a call and by the program, start-up included."""
     rows = ("\t".join(["7"] * 90) + "\n") * 90
-    text = ("J\t2048\t0\t2048\t64\t90\t90\n" + rows).encode()
-    text = text.replace(b"7\t7", b"10\t7", 16384 - len(text))
+    text = ("N\t2048\t0\t2048\t64\t90\t90\tb\n" + rows).encode()
+    text = text.replace(b"7\t7", b"10\t7", LONGEST_TEXT - len(text))
+    if len(text) != LONGEST_TEXT:
+        sys.exit(f"the longest text has {len(text)} bytes")
     out = ctypes.create_string_buffer(49240)
     library.texts.argtypes = [ctypes.c_char_p, ctypes.c_size_t, ctypes.c_void_p, ctypes.c_size_t]
     times = measure({"text": lambda: library.texts(text, len(text), out, 1)})
@@ -281,8 +285,10 @@ def texts(library, program):
         began = time.perf_counter_ns()
         answer = subprocess.run([program], input=text, capture_output=True, check=True).stdout
         walls.append(time.perf_counter_ns() - began)
-    if not answer.startswith(b"K\t"):
-        sys.exit("the longest text was refused")
+    if not answer.startswith(b"K\t") or answer.count(b"\n") != 2 + 90:
+        sys.exit(f"the longest text was refused: {answer[:9]}")
+    if not out.raw.startswith(answer):
+        sys.exit("the call and the program answer the longest text otherwise")
     row(f"text of {len(text)} bytes, 64 steps: the call", called / 1e6, "ms", 1)
     row("the same by the program, start-up included, wall clock", statistics.median(walls) / 1e6, "ms", statistics.median(walls) / called)
     return statistics.median(walls) / 1e6

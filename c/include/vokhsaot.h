@@ -27,9 +27,10 @@
  * also in a signal handler, where they are lent different records, stores and pictures. Two calls that are lent the same one
  * need a lock of the caller's, unless both only read it (a parameter that points to const).
  *
- * NEEDS. Of the C library memcpy and memset, and nothing else. Stack: vokhsaot_answer_text() takes at most 48 KiB, a run and a
- * tick at most 16 KiB, every other call at most 4 KiB, with what memcpy and memset take besides. Every call ends: a run takes
- * time in proportion to steps x width x height, a tick to width x height.
+ * NEEDS. Of the C library memcpy and memset, and nothing else. Stack: vokhsaot_answer_text() takes at most 48 KiB,
+ * vokhsaot_convert_j_to_n() and vokhsaot_convert_n_to_j() at most 20 KiB, a run and a tick at most 16 KiB, every other call at
+ * most 4 KiB, with what memcpy and memset take besides. Every call ends: a run takes time in proportion to steps x width x height,
+ * a tick to width x height, a conversion to the text's length.
  */
 #ifndef VOKHSAOT_H
 #define VOKHSAOT_H
@@ -43,9 +44,9 @@ extern "C" {
 
 /* ---- Version. The library has the soname libvokhsaot.so.MAJOR.MINOR: with another of these, compile again. */
 
-#define VOKHSAOT_VERSION "0.4.0"
+#define VOKHSAOT_VERSION "0.5.0"
 #define VOKHSAOT_VERSION_MAJOR 0
-#define VOKHSAOT_VERSION_MINOR 4
+#define VOKHSAOT_VERSION_MINOR 5
 #define VOKHSAOT_VERSION_PATCH 0
 
 /* ---- Limits. Whole numbers, for #if too. */
@@ -76,15 +77,22 @@ extern "C" {
 #define VOKHSAOT_COVARIANCE_ENTRIES 3
 /* Numbers of a kernel: the sum and nine weights. */
 #define VOKHSAOT_KERNEL_NUMBERS 10
-/* Bytes of the longest job text; a longer one is no job. */
-#define VOKHSAOT_TEXT_BYTES 16384
+/* Bytes of the longest job text, which begins with N; a longer one is no job. */
+#define VOKHSAOT_TEXT_BYTES 16386
+/* Bytes of the longest archived text, which begins with J; a longer one is no job. */
+#define VOKHSAOT_ARCHIVED_TEXT_BYTES 16384
+/* Bytes by which an N text is longer than the J text of the same job: the tab and the letter of its choice. */
+#define VOKHSAOT_CHOICE_BYTES 2
 /* Bytes of a buffer that has room for the answer to any text. */
 #define VOKHSAOT_ANSWER_BYTES 49240
 
 /* ---- Refusals: what a call returns where it does not return 0. */
 
 enum {
-    /* The text is no job. No call returns it: it stands in the text that vokhsaot_answer_text() writes. */
+    /*
+     * The text is no job in the format that the call takes. The converter returns it; of vokhsaot_answer_text() it stands in the
+     * text that it writes.
+     */
     VOKHSAOT_TEXT_IS_NO_JOB = 1,
     /*
      * The words are no record in order, or not VOKHSAOT_WORDS of them, or the store's length is not VOKHSAOT_STORE_PIXELS. Of
@@ -115,11 +123,13 @@ enum {
     /* Fewer than two buffers are free: every seat has a job. Collect or withdraw one. */
     VOKHSAOT_NO_FREE_BUFFERS = 12,
     /* The last number given is 2^64 - 1: only a new opening gives numbers again. */
-    VOKHSAOT_NUMBERS_USED_UP = 13
+    VOKHSAOT_NUMBERS_USED_UP = 13,
+    /* The N text's choice is b, which a J text cannot name. It is checked right after 1. */
+    VOKHSAOT_CANNOT_GO_BACK = 14
 };
 
 /*
- * The sentence of a refusal, in UTF-8, for messages to people. 0 has the sentence "Not refused.", a number above 13 the
+ * The sentence of a refusal, in UTF-8, for messages to people. 0 has the sentence "Not refused.", a number above 14 the
  * sentence "Not the number of a refusal.". The text is a constant: it is never null and needs no freeing.
  */
 static inline const char *vokhsaot_refusal_text(uint32_t number) {
@@ -127,7 +137,7 @@ static inline const char *vokhsaot_refusal_text(uint32_t number) {
     case 0:
         return "Not refused.";
     case VOKHSAOT_TEXT_IS_NO_JOB:
-        return "The bench text is not a job.";
+        return "The text is not a job.";
     case VOKHSAOT_RECORD_OUT_OF_ORDER:
         return "The service record is not in order, or the store's length is not 16,384.";
     case VOKHSAOT_VARIANCE_OUT_OF_RANGE:
@@ -152,6 +162,8 @@ static inline const char *vokhsaot_refusal_text(uint32_t number) {
         return "Fewer than two buffers are free.";
     case VOKHSAOT_NUMBERS_USED_UP:
         return "The last number given is 2^64 − 1.";
+    case VOKHSAOT_CANNOT_GO_BACK:
+        return "An N text with b cannot go back to J.";
     default:
         return "Not the number of a refusal.";
     }
@@ -434,17 +446,65 @@ uint32_t vokhsaot_mixed(const uint16_t *pixels, size_t pixels_len, uint32_t widt
 uint32_t vokhsaot_directional(double cosine, double sine, const uint16_t *pixels, size_t pixels_len, uint32_t width,
                               uint32_t height, double *result, size_t result_len);
 
-/* ---- Job texts. */
+/* ---- Job texts: N texts, which name the choice, and archived J texts, which do not. */
 
 /*
- * Whole numbers. The bench program's answer to a text: writes it to the start of out, which keeps the bytes behind it, and how
- * many bytes it has to *length. There is no 0 byte at its end. The text may be any bytes, of any length. A text that is no job
- * and a job that is refused have an answer too, the line of the refusal, R, tab, number, with 1, 5, 6 or 11; the call then
- * returns 0.
+ * A job text is line one and the pixel lines. Fields are parted by one tab, and each line, the last one too, ends with a newline:
+ *   N <tab> xx <tab> xy <tab> yy <tab> steps <tab> width <tab> height <tab> choice <newline>
+ *   pixel <tab> pixel <tab> .. (width of them) <newline>
+ *   .. (height such lines, and none where width or height is 0)
+ * The choice is one byte: s for VOKHSAOT_SMALLEST, b for VOKHSAOT_BINOMIAL. xx, xy and yy fit signed 32 bits; steps, width and
+ * height unsigned 32 bits; a pixel is 0 to 65535. Numbers are decimal, with no plus, no leading zero and no minus before a 0. So
+ * a job has one spelling. There is no other byte: no blank, no carriage return, no tab at a line's end, nothing after the last
+ * line, no 0 byte. A job text has at most VOKHSAOT_TEXT_BYTES bytes.
+ *
+ * An archived text, from before kernels had a choice, begins with J and has no eighth field:
+ *   J <tab> xx <tab> xy <tab> yy <tab> steps <tab> width <tab> height <newline>
+ * The rest is the same. It has at most VOKHSAOT_ARCHIVED_TEXT_BYTES bytes, and its job went by VOKHSAOT_SMALLEST.
+ *
+ * The releases 0.2.0 to 0.4.0 took J texts, and answered them by VOKHSAOT_BINOMIAL. A text that was written for these is none from
+ * the archives: it has N at its front and b at the end of line one now, which its writer has to put there.
+ *
+ * All else is no job (B3 to B12, S4.1, S4.5). The calls may be lent any bytes, of any length.
+ */
+
+/*
+ * Whole numbers. The bench program's answer to an N text: writes it to the start of out, which keeps the bytes behind it, and how
+ * many bytes it has to *length. There is no 0 byte at its end. The kernel and the pixels are those of the text's choice. A text
+ * that is no job and a job that is refused have an answer too, the line of the refusal, R, tab, number; the call then returns 0.
+ * The number is, in checking order:
+ *   1  the text is no N text, or has more than VOKHSAOT_TEXT_BYTES bytes; so also a J text, which vokhsaot_convert_j_to_n()
+ *      makes an N text of
+ *   5  its steps are not 1 to 64
+ *   6  its width or its height is not 1 to 1024
+ *   11 its shape has no kernel with so many steps
  * Refusals:
  *   9  out_len is less than VOKHSAOT_ANSWER_BYTES
  */
 uint32_t vokhsaot_answer_text(const uint8_t *text, size_t text_len, uint8_t *out, size_t out_len, size_t *length);
+
+/*
+ * Whole numbers. Converts an archived J text to the N text of the same job with the choice s: writes N, line one from its second
+ * byte on, a tab and s, and all that follows from line one's newline on, each byte as it was. That fills out, of text_len +
+ * VOKHSAOT_CHOICE_BYTES bytes. vokhsaot_convert_n_to_j() goes back to the same bytes. Nothing else is checked: steps, sides and
+ * shapes that a run would refuse convert too.
+ * Refusals:
+ *   1  the text is no J text, or has more than VOKHSAOT_ARCHIVED_TEXT_BYTES bytes; so also an N text
+ *   9  out_len is not text_len + VOKHSAOT_CHOICE_BYTES
+ */
+uint32_t vokhsaot_convert_j_to_n(const uint8_t *text, size_t text_len, uint8_t *out, size_t out_len);
+
+/*
+ * Whole numbers. Converts an N text with the choice s back to the J text of the same job: writes J, line one from its second byte
+ * on without its last field and the tab before it, and all that follows from line one's newline on, each byte as it was. That
+ * fills out, of text_len - VOKHSAOT_CHOICE_BYTES bytes. vokhsaot_convert_j_to_n() goes back to the same bytes. Nothing else is
+ * checked: steps, sides and shapes that a run would refuse convert too.
+ * Refusals:
+ *   1  the text is no N text, or has more than VOKHSAOT_TEXT_BYTES bytes; so also a J text
+ *   14 the text's choice is b; also where out_len is wrong
+ *   9  out_len is not text_len - VOKHSAOT_CHOICE_BYTES
+ */
+uint32_t vokhsaot_convert_n_to_j(const uint8_t *text, size_t text_len, uint8_t *out, size_t out_len);
 
 /* ---- The service: up to eight jobs, whose steps are done in turn, one step a tick. */
 

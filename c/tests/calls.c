@@ -6,7 +6,7 @@
 #include <string.h>
 
 /* Limits, layout and version are numbers for the preprocessor too. */
-#if VOKHSAOT_VERSION_MAJOR != 0 || VOKHSAOT_VERSION_MINOR < 4 || VOKHSAOT_VERSION_PATCH < 0
+#if VOKHSAOT_VERSION_MAJOR != 0 || VOKHSAOT_VERSION_MINOR < 5 || VOKHSAOT_VERSION_PATCH < 0
 #error "the version"
 #endif
 #if VOKHSAOT_LARGEST_PIXEL != 65535 || VOKHSAOT_MOST_STEPS != 64 || VOKHSAOT_LONGEST_SIDE != 1024 \
@@ -17,9 +17,11 @@
     || VOKHSAOT_STORE_PIXELS != VOKHSAOT_BUFFERS * VOKHSAOT_BUFFER_PIXELS
 #error "limits of the service"
 #endif
-#if VOKHSAOT_COVARIANCE_ENTRIES != 3 || VOKHSAOT_KERNEL_NUMBERS != 10 || VOKHSAOT_TEXT_BYTES != 16384 \
-    || VOKHSAOT_ANSWER_BYTES != 49240
+#if VOKHSAOT_COVARIANCE_ENTRIES != 3 || VOKHSAOT_KERNEL_NUMBERS != 10 || VOKHSAOT_ANSWER_BYTES != 49240
 #error "lengths of lent slices"
+#endif
+#if VOKHSAOT_TEXT_BYTES != 16386 || VOKHSAOT_ARCHIVED_TEXT_BYTES != 16384 || VOKHSAOT_CHOICE_BYTES != 2
+#error "lengths of texts"
 #endif
 #if VOKHSAOT_SEAT_WORDS != 9 || VOKHSAOT_SEAT_F != 8 || VOKHSAOT_WORD_LAST_NUMBER != VOKHSAOT_SEATS * VOKHSAOT_SEAT_WORDS \
     || VOKHSAOT_WORD_LAST_FILLED != 73 || VOKHSAOT_WORD_LAST_SERVED != 74 || VOKHSAOT_WORDS != VOKHSAOT_WORD_LAST_SERVED + 1
@@ -218,20 +220,133 @@ static void differences(void) {
     expect(vokhsaot_mixed(steep, 4, 2, 2, result, 3) == VOKHSAOT_WRONG_LENGTH && result[0] == 4, "a short result");
 }
 
-static void texts(void) {
-    const char *text = "J\t2048\t0\t2048\t1\t3\t3\n0\t0\t0\n0\t1600\t0\n0\t0\t0\n";
-    const char *answer = "K\t16\t1\t2\t1\t2\t4\t2\t1\t2\t1\nP\t3\t3\n100\t200\t100\n200\t400\t200\n100\t200\t100\n";
+/* Case a's texts: line one in each format and by each choice, and the pixel lines. */
+#define CASE_A "\t2048\t0\t2048\t1\t3\t3"
+#define SPOT "\n0\t0\t0\n0\t1600\t0\n0\t0\t0\n"
+
+static void answer_is(const char *text, size_t text_len, const char *answer, const char *what) {
     uint8_t *out = malloc(VOKHSAOT_ANSWER_BYTES);
     size_t length = 0;
 
     expect(out != NULL, "memory");
-    expect(vokhsaot_answer_text((const uint8_t *)text, strlen(text), out, VOKHSAOT_ANSWER_BYTES, &length) == 0
-               && length == strlen(answer) && memcmp(out, answer, length) == 0, "the listing");
-    expect(vokhsaot_answer_text((const uint8_t *)text, 5, out, VOKHSAOT_ANSWER_BYTES, &length) == 0 && length == 4
-               && memcmp(out, "R\t1\n", 4) == 0, "no job");
-    expect(vokhsaot_answer_text((const uint8_t *)text, 5, out, VOKHSAOT_ANSWER_BYTES - 1, &length) == VOKHSAOT_WRONG_LENGTH,
-           "a short buffer");
+    memset(out, 0xAB, VOKHSAOT_ANSWER_BYTES);
+    expect(vokhsaot_answer_text((const uint8_t *)text, text_len, out, VOKHSAOT_ANSWER_BYTES, &length) == 0
+               && length == strlen(answer) && memcmp(out, answer, length) == 0, what);
+    for (size_t i = length; i < VOKHSAOT_ANSWER_BYTES; i++) {
+        expect(out[i] == 0xAB, "the bytes behind the answer");
+    }
     free(out);
+}
+
+static void texts(void) {
+    static const char text[] = "N" CASE_A "\tb" SPOT, smallest[] = "N" CASE_A "\ts" SPOT, archived[] = "J" CASE_A SPOT;
+    uint8_t out[VOKHSAOT_ANSWER_BYTES - 1] = {0};
+    size_t length = 99;
+
+    answer_is(text, strlen(text), "K\t16\t1\t2\t1\t2\t4\t2\t1\t2\t1\nP\t3\t3\n100\t200\t100\n200\t400\t200\n100\t200\t100\n",
+              "the listing");
+    answer_is(smallest, strlen(smallest), "K\t4\t0\t1\t0\t1\t0\t1\t0\t1\t0\nP\t3\t3\n0\t400\t0\n400\t0\t400\n0\t400\t0\n",
+              "the same, smallest");
+    answer_is(archived, strlen(archived), "R\t1\n", "an archived text is no job");
+    answer_is(text, 5, "R\t1\n", "no job");
+    answer_is(text, 0, "R\t1\n", "no text");
+    answer_is("N\t0\t0\t0\t65\t1\t1\ts\n7\n", 19, "R\t5\n", "too many steps");
+    answer_is("N\t0\t0\t0\t1\t0\t7\tb\n", 16, "R\t6\n", "no width");
+    answer_is("N\t0\t1\t0\t1\t1\t1\ts\n7\n", 18, "R\t11\n", "no kernel");
+    expect(vokhsaot_answer_text((const uint8_t *)text, 5, out, sizeof out, &length) == VOKHSAOT_WRONG_LENGTH && length == 99
+               && out[0] == 0, "a short buffer");
+}
+
+enum { J_TO_N, N_TO_J };
+
+/*
+ * The converter, one way or the other, from a text to an output of so many bytes, with others on both sides: what it returns and, where
+ * that is 0, what it writes. It writes nothing else.
+ */
+static void conversion_is(int way, const char *text, size_t text_len, size_t out_len, uint32_t code, const char *expected) {
+    uint8_t *lent = malloc(out_len + 16), *kept = malloc(text_len + 1);
+    uint32_t returned;
+
+    expect(lent != NULL && kept != NULL, "memory");
+    memset(lent, 0xAB, out_len + 16);
+    memcpy(kept, text, text_len);
+    returned = way == J_TO_N ? vokhsaot_convert_j_to_n(kept, text_len, lent + 8, out_len)
+                             : vokhsaot_convert_n_to_j(kept, text_len, lent + 8, out_len);
+    expect(returned == code, "what the converter returns");
+    expect(memcmp(kept, text, text_len) == 0, "the text is only read");
+    expect(code != 0 || memcmp(lent + 8, expected, out_len) == 0, "what the converter writes");
+    for (size_t i = 0; i < out_len + 16; i++) {
+        expect(lent[i] == 0xAB || (code == 0 && i >= 8 && i < out_len + 8), "it writes nothing else");
+    }
+    free(kept);
+    free(lent);
+}
+
+/* A job in both formats: each converts to the other, into an output of one length. */
+static void converted(const char *j, const char *n) {
+    const size_t j_len = strlen(j), n_len = strlen(n);
+
+    expect(n_len == j_len + VOKHSAOT_CHOICE_BYTES, "two bytes more");
+    for (size_t out_len = 0; out_len <= n_len + 5; out_len++) {
+        conversion_is(J_TO_N, j, j_len, out_len, out_len == n_len ? 0 : VOKHSAOT_WRONG_LENGTH, n);
+        conversion_is(N_TO_J, n, n_len, out_len, out_len == j_len ? 0 : VOKHSAOT_WRONG_LENGTH, j);
+        conversion_is(J_TO_N, n, n_len, out_len, VOKHSAOT_TEXT_IS_NO_JOB, NULL);
+        conversion_is(N_TO_J, j, j_len, out_len, VOKHSAOT_TEXT_IS_NO_JOB, NULL);
+    }
+}
+
+static void converter(void) {
+    static const char rule[] = "N" CASE_A "\tb" SPOT;
+    static const char *const no_jobs[] = {
+        "", "N", "J\n", "N\t0\t0\t0\t1\t1\t1\n7\n", "J\t0\t0\t0\t1\t1\t1\ts\n7\n", "N\t0\t0\t0\t1\t1\t1\tsb\n7\n",
+        "N\t0\t0\t0\t1\t1\t1\tS\n7\n", "N\t0\t0\t0\t1\t1\t1\t\n7\n", "N\t0\t0\t0\t1\t1\t1\tb\n7", "J\t0\t0\t0\t1\t1\t1\n07\n",
+    };
+
+    converted("J" CASE_A SPOT, "N" CASE_A "\ts" SPOT);
+    converted("J\t0\t0\t0\t0\t0\t0\n", "N\t0\t0\t0\t0\t0\t0\ts\n");
+    converted("J\t0\t0\t0\t1\t4000000000\t0\n", "N\t0\t0\t0\t1\t4000000000\t0\ts\n");
+    converted("J\t4097\t-5000\t4096\t99\t1\t2\n7\n65535\n", "N\t4097\t-5000\t4096\t99\t1\t2\ts\n7\n65535\n");
+    for (size_t out_len = 0; out_len <= sizeof rule + 5; out_len++) {
+        conversion_is(N_TO_J, rule, strlen(rule), out_len, VOKHSAOT_CANNOT_GO_BACK, NULL);
+    }
+    for (size_t i = 0; i < sizeof no_jobs / sizeof *no_jobs; i++) {
+        for (size_t out_len = 0; out_len <= strlen(no_jobs[i]) + 5; out_len++) {
+            conversion_is(J_TO_N, no_jobs[i], strlen(no_jobs[i]), out_len, VOKHSAOT_TEXT_IS_NO_JOB, NULL);
+            conversion_is(N_TO_J, no_jobs[i], strlen(no_jobs[i]), out_len, VOKHSAOT_TEXT_IS_NO_JOB, NULL);
+        }
+    }
+}
+
+/*
+ * A job's text with this line one and 93 x 88 pixels, of one digit but for the first. With one digit there it is as long as a text may
+ * be. Returns its length.
+ */
+static size_t longest_text(const char *line_one, size_t digits, char *text) {
+    size_t length = strlen(line_one);
+
+    memcpy(text, line_one, length);
+    for (size_t pixel = 0; pixel < 93 * 88; pixel++) {
+        memset(text + length, '1', pixel == 0 ? digits : 1);
+        length += pixel == 0 ? digits : 1;
+        text[length++] = pixel % 93 == 92 ? '\n' : '\t';
+    }
+    return length;
+}
+
+static void longest_texts(void) {
+    enum { MOST = VOKHSAOT_TEXT_BYTES + 5 };
+    static char j[MOST], n[MOST];
+    const char *j_line = "J\t0\t0\t0\t1\t93\t88\n", *n_line = "N\t0\t0\t0\t1\t93\t88\ts\n";
+
+    expect(longest_text(j_line, 1, j) == VOKHSAOT_ARCHIVED_TEXT_BYTES, "the longest J text");
+    expect(longest_text(n_line, 1, n) == VOKHSAOT_TEXT_BYTES, "the longest N text");
+    conversion_is(J_TO_N, j, VOKHSAOT_ARCHIVED_TEXT_BYTES, VOKHSAOT_TEXT_BYTES, 0, n);
+    conversion_is(N_TO_J, n, VOKHSAOT_TEXT_BYTES, VOKHSAOT_ARCHIVED_TEXT_BYTES, 0, j);
+    for (size_t digits = 2; digits <= 4; digits++) {
+        const size_t j_len = longest_text(j_line, digits, j), n_len = longest_text(n_line, digits, n);
+        conversion_is(J_TO_N, j, j_len, j_len + VOKHSAOT_CHOICE_BYTES, VOKHSAOT_TEXT_IS_NO_JOB, NULL);
+        conversion_is(N_TO_J, n, n_len, n_len - VOKHSAOT_CHOICE_BYTES, VOKHSAOT_TEXT_IS_NO_JOB, NULL);
+    }
 }
 
 static void service(void) {
@@ -667,13 +782,13 @@ static void signed_words(void) {
 
 static void sentences(void) {
     expect(strcmp(vokhsaot_refusal_text(0), "Not refused.") == 0, "the sentence of 0");
-    for (uint32_t number = 1; number <= VOKHSAOT_NUMBERS_USED_UP; number++) {
-        for (uint32_t other = 0; other <= VOKHSAOT_NUMBERS_USED_UP + 1; other++) {
+    for (uint32_t number = 1; number <= VOKHSAOT_CANNOT_GO_BACK; number++) {
+        for (uint32_t other = 0; other <= VOKHSAOT_CANNOT_GO_BACK + 1; other++) {
             expect((strcmp(vokhsaot_refusal_text(number), vokhsaot_refusal_text(other)) == 0) == (number == other),
                    "a sentence for each refusal");
         }
     }
-    expect(strcmp(vokhsaot_refusal_text(14), "Not the number of a refusal.") == 0, "the sentence of 14");
+    expect(strcmp(vokhsaot_refusal_text(15), "Not the number of a refusal.") == 0, "the sentence of 15");
     expect(strcmp(vokhsaot_refusal_text(UINT32_MAX), "Not the number of a refusal.") == 0, "the sentence of the largest number");
 }
 
@@ -687,6 +802,8 @@ int main(void) {
     shown_pictures();
     differences();
     texts();
+    converter();
+    longest_texts();
     service();
     layout();
     seats_in_turn();

@@ -18,7 +18,7 @@ import tempfile
 NEEDED = {"memcpy", "memset"}
 INDEPENDENT = {"R_X86_64_PC32", "R_X86_64_PLT32"}
 # In bytes, by the header's words; "" is every other call.
-STACK = {"answer_text": 48 * 1024, "run_": 16 * 1024, "tick": 16 * 1024, "": 4 * 1024}
+STACK = {"answer_text": 48 * 1024, "convert_": 20 * 1024, "run_": 16 * 1024, "tick": 16 * 1024, "": 4 * 1024}
 
 
 def printed(*command):
@@ -123,6 +123,7 @@ WRONG = {
     "not position-independent": "extern int memcpy; int *vokhsaot_a(void) { return &memcpy; }",
     "of stack, more than 4096": "void vokhsaot_a(void) { char a[5000]; memset(a, 0, 5000); }",
     "of stack, more than 49152": "void vokhsaot_answer_text(void) { char a[60000]; memset(a, 0, 60000); }",
+    "of stack, more than 20480": "void vokhsaot_convert_n_to_j(void) { char a[24000]; memset(a, 0, 24000); }",
     "not understood": "void vokhsaot_a(long n) { char a[n]; memset(a, 0, n); }",
     "vokhsaot_a calls itself": "int vokhsaot_a(int n) { char a[9]; memset(a, 0, 9); return n ? vokhsaot_a(n - 1) + a[n] : 0; }",
     "inner calls itself": """

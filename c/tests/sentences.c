@@ -4,7 +4,7 @@
 #include <stdio.h>
 
 int main(void) {
-    for (uint32_t number = 1; number <= VOKHSAOT_NUMBERS_USED_UP; number++) {
+    for (uint32_t number = 1; number <= VOKHSAOT_CANNOT_GO_BACK; number++) {
         puts(vokhsaot_refusal_text(number));
     }
     return 0;

@@ -1,10 +1,10 @@
-//! The numbered refusals (N1 to N13 of docs/REFERENCE.md), and the checks that
+//! The numbered refusals (N1 to N14 of docs/REFERENCE.md), and the checks that
 //! several calls share.
 
 /// A refusal's number in that list.
 pub type ErrorCode = u8;
 
-/// The bench text is not a job.
+/// The text is not a job of the format that is read.
 pub const NOT_A_JOB: ErrorCode = 1;
 /// The service record is not in order, or the store's length is not 16,384.
 pub const SERVICE_NOT_IN_ORDER: ErrorCode = 2;
@@ -20,7 +20,8 @@ pub const BAD_SIDES: ErrorCode = 6;
 pub const UNKNOWN_JOB: ErrorCode = 7;
 /// The job has steps left (collect only).
 pub const JOB_UNFINISHED: ErrorCode = 8;
-/// A lent picture's length is not w × h.
+/// A lent picture's length is not w × h, or the converter's output has not two
+/// bytes more or less than the text.
 pub const BAD_LENGTH: ErrorCode = 9;
 /// A submitted picture has more than 1024 pixels.
 pub const PICTURE_TOO_LARGE: ErrorCode = 10;
@@ -30,6 +31,8 @@ pub const NO_KERNEL: ErrorCode = 11;
 pub const NO_FREE_BUFFERS: ErrorCode = 12;
 /// The last number given is 2^64 − 1.
 pub const NUMBERS_EXHAUSTED: ErrorCode = 13;
+/// An N text with b cannot go back to J; it comes after 1.
+pub const CANNOT_GO_BACK: ErrorCode = 14;
 
 /// Most steps of a run.
 pub const MAX_STEPS: u32 = 64;

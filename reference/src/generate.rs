@@ -1,12 +1,14 @@
 //! Inputs for tests: listed border cases, and random ones that keep close to
 //! the borders.
 
-use crate::job_text::{Job, MAX_TEXT};
-use crate::kernel::{free_numbers, Covariance, UNITS};
+use crate::error_code::ErrorCode;
+use crate::job_text::{print, Format, Job};
+use crate::kernel::{free_numbers, Choice, Covariance, UNITS};
 use crate::random::Random;
 use crate::service::{Record, Rules, Slot, SLOTS};
 use crate::shape::{Direction, Shape};
 use crate::smooth::places;
+use std::ops::RangeInclusive;
 
 /// Step counts outside the limits.
 const BAD_STEPS: [u32; 4] = [0, 65, 66, u32::MAX];
@@ -655,69 +657,195 @@ pub fn damaged_words(random: &mut Random, words: &[u64]) -> Vec<u64> {
     words
 }
 
-/// The text of a job.
-pub const A_JOB: &str = "J\t1000\t-1\t2000\t1\t2\t2\n0\t65535\n10\t9\n";
+/// The text of a job, in which @ stands for the letter of a format, and % for a
+/// tab and the letter of a choice where the format has them; see [`written`].
+pub const A_JOB: &str = "@\t1000\t-1\t2000\t1\t2\t2%\n0\t65535\n10\t9\n";
 
-/// Each of these differs from the text of a job in one thing.
+/// Each of these differs from the text of a job in one thing, in both formats.
 pub const TEXTS_THAT_ARE_NO_JOBS: &[&str] = &[
     "",
     "\n",
-    "J",
-    "J\n",
-    "J\t0\t0\t0\t1\t1\t1\n",
-    "J\t0\t0\t0\t1\t1\t1\n0",
-    "J\t0\t0\t0\t1\t1\t1\n0\n\n",
-    "J\t0\t0\t0\t1\t1\t1\n0\n0\n",
-    "J\t0\t0\t0\t1\t1\t1\n0\t0\n",
-    "J\t0\t0\t0\t1\t1\t1\n\n",
-    "J\t0\t0\t0\t1\t1\t1\n0\t\n",
-    "J\t0\t0\t0\t1\t1\t1\n\t0\n",
-    "J\t0\t0\t0\t1\t1\t1\r\n0\n",
-    "J\t0\t0\t0\t1\t1\t1\n0\r\n",
-    "J\t0\t0\t0\t1\t1\t1\n 0\n",
-    "J\t0\t0\t0\t1\t1\t1\n00\n",
-    "J\t0\t0\t0\t1\t1\t1\n-0\n",
-    "J\t0\t0\t0\t1\t1\t1\n+0\n",
-    "J\t0\t0\t0\t1\t1\t1\n-1\n",
-    "J\t0\t0\t0\t1\t1\t1\n65536\n",
-    "J\t0\t0\t0\t1\t1\t1\na\n",
-    "J\t0\t0\t0\t1\t1\t1\n1a\n",
-    "J\t0\t0\t0\t1\t1\t1\n0x1\n",
-    "J\t0\t0\t0\t1\t1\t1\n100000000000000000000000000000000000000000\n",
-    "j\t0\t0\t0\t1\t1\t1\n0\n",
-    "JJ\t0\t0\t0\t1\t1\t1\n0\n",
-    "\nJ\t0\t0\t0\t1\t1\t1\n0\n",
-    "J \t0\t0\t0\t1\t1\t1\n0\n",
-    "J\t0\t0\t0\t1\t1\n0\n",
-    "J\t0\t0\t0\t1\t1\t1\t1\n0\n",
-    "J\t\t0\t0\t0\t1\t1\t1\n0\n",
-    "J\t0\t0\t0\t1\t1\t1\t\n0\n",
-    "J 0 0 0 1 1 1\n0\n",
-    "J\t-0\t0\t0\t1\t1\t1\n0\n",
-    "J\t0\t01\t0\t1\t1\t1\n0\n",
-    "J\t0\t-01\t0\t1\t1\t1\n0\n",
-    "J\t0\t--1\t0\t1\t1\t1\n0\n",
-    "J\t0\t-\t0\t1\t1\t1\n0\n",
-    "J\t0\t+1\t0\t1\t1\t1\n0\n",
-    "J\t2147483648\t0\t0\t1\t1\t1\n0\n",
-    "J\t-2147483649\t0\t0\t1\t1\t1\n0\n",
-    "J\t4294967296\t0\t0\t1\t1\t1\n0\n",
-    "J\t0\t0\t0\t4294967296\t1\t1\n0\n",
-    "J\t0\t0\t0\t4294967297\t1\t1\n0\n",
-    "J\t0\t0\t0\t-1\t1\t1\n0\n",
-    "J\t0\t0\t0\t1\t-1\t1\n0\n",
-    "J\t0\t0\t0\t1\t4294967297\t1\n0\n",
-    "J\t0\t0\t0\t1\t65536\t65536\n",
-    "J\t0\t0\t0\t1\t4294967295\t4294967295\n0\n",
-    "J\t0\t0\t0\t1\t0\t3\n\n\n\n",
-    "J\t0\t0\t0\t1\t0\t1\n\n",
-    "J\t0\t0\t0\t1\t3\t0\n\n",
-    "J\t0\t0\t0\t1\t0\t0\n0\n",
-    "J\t0\t0\t0\t1\t0\t0\nx",
+    "@",
+    "@\n",
+    "@%",
+    "@%\n",
+    "@\t0\t0\t0\t1\t1\t1%\n",
+    "@\t0\t0\t0\t1\t1\t1%\n0",
+    "@\t0\t0\t0\t1\t1\t1%\n0\n\n",
+    "@\t0\t0\t0\t1\t1\t1%\n0\n0\n",
+    "@\t0\t0\t0\t1\t1\t1%\n0\t0\n",
+    "@\t0\t0\t0\t1\t1\t1%\n\n",
+    "@\t0\t0\t0\t1\t1\t1%\n0\t\n",
+    "@\t0\t0\t0\t1\t1\t1%\n\t0\n",
+    "@\t0\t0\t0\t1\t1\t1%\r\n0\n",
+    "@\t0\t0\t0\t1\t1\t1%\n0\r\n",
+    "@\t0\t0\t0\t1\t1\t1%\n 0\n",
+    "@\t0\t0\t0\t1\t1\t1%\n00\n",
+    "@\t0\t0\t0\t1\t1\t1%\n-0\n",
+    "@\t0\t0\t0\t1\t1\t1%\n+0\n",
+    "@\t0\t0\t0\t1\t1\t1%\n-1\n",
+    "@\t0\t0\t0\t1\t1\t1%\n65536\n",
+    "@\t0\t0\t0\t1\t1\t1%\na\n",
+    "@\t0\t0\t0\t1\t1\t1%\n1a\n",
+    "@\t0\t0\t0\t1\t1\t1%\n0x1\n",
+    "@\t0\t0\t0\t1\t1\t1%\n100000000000000000000000000000000000000000\n",
+    "j\t0\t0\t0\t1\t1\t1%\n0\n",
+    "n\t0\t0\t0\t1\t1\t1%\n0\n",
+    "@@\t0\t0\t0\t1\t1\t1%\n0\n",
+    "\n@\t0\t0\t0\t1\t1\t1%\n0\n",
+    "@ \t0\t0\t0\t1\t1\t1%\n0\n",
+    "@\t0\t0\t0\t1\t1%\n0\n",
+    "@\t0\t0\t0\t1\t1\t1\t1%\n0\n",
+    "@\t\t0\t0\t0\t1\t1\t1%\n0\n",
+    "@\t0\t0\t0\t1\t1\t1\t%\n0\n",
+    "@ 0 0 0 1 1 1%\n0\n",
+    "@\t-0\t0\t0\t1\t1\t1%\n0\n",
+    "@\t0\t01\t0\t1\t1\t1%\n0\n",
+    "@\t0\t-01\t0\t1\t1\t1%\n0\n",
+    "@\t0\t--1\t0\t1\t1\t1%\n0\n",
+    "@\t0\t-\t0\t1\t1\t1%\n0\n",
+    "@\t0\t+1\t0\t1\t1\t1%\n0\n",
+    "@\t2147483648\t0\t0\t1\t1\t1%\n0\n",
+    "@\t-2147483649\t0\t0\t1\t1\t1%\n0\n",
+    "@\t4294967296\t0\t0\t1\t1\t1%\n0\n",
+    "@\t0\t0\t0\t4294967296\t1\t1%\n0\n",
+    "@\t0\t0\t0\t4294967297\t1\t1%\n0\n",
+    "@\t0\t0\t0\t-1\t1\t1%\n0\n",
+    "@\t0\t0\t0\t1\t-1\t1%\n0\n",
+    "@\t0\t0\t0\t1\t4294967297\t1%\n0\n",
+    "@\t0\t0\t0\t1\t65536\t65536%\n",
+    "@\t0\t0\t0\t1\t4294967295\t4294967295%\n0\n",
+    "@\t0\t0\t0\t1\t0\t3%\n\n\n\n",
+    "@\t0\t0\t0\t1\t0\t1%\n\n",
+    "@\t0\t0\t0\t1\t3\t0%\n\n",
+    "@\t0\t0\t0\t1\t0\t0%\n0\n",
+    "@\t0\t0\t0\t1\t0\t0%\nx",
+    "@\t0\t0\t0\t1\t0\t0%",
+    "@\t0\t0\t0\t1\t0\t0%\r\n",
+    "@\t0\t0\t0\t1\t1\t1%0\n",
+    "@\t0\t0\t0\t1\t1\t1%\t0\n",
 ];
 
-/// Numbers of the fields' types, and a small picture.
-pub fn random_job(random: &mut Random) -> Job {
+/// What is no choice between h and the newline of line one; a J text has nothing
+/// there, and an N text one of "\ts" and "\tb".
+pub const NO_CHOICES: &[&str] = &[
+    "\t",
+    "s",
+    "b",
+    " s",
+    " b",
+    "\tS",
+    "\tB",
+    "\ta",
+    "\tc",
+    "\tr",
+    "\tt",
+    "\tJ",
+    "\tN",
+    "\tx",
+    "\t0",
+    "\t1",
+    "\t-",
+    "\tss",
+    "\tsb",
+    "\tbs",
+    "\tbb",
+    "\tsx",
+    "\ts0",
+    "\tsmallest",
+    "\ts ",
+    "\tb ",
+    "\t s",
+    "\t b",
+    "\ts\t",
+    "\tb\t",
+    "\t\ts",
+    "\t\tb",
+    "\ts\ts",
+    "\ts\tb",
+    "\tb\ts",
+    "\t0\ts",
+    "\ts\r",
+    "\tb\r",
+    "\r\ts",
+    "\ts\0",
+    "\t\0s",
+    "\t\u{17f}",
+    "\ns",
+    "\n\ts",
+    "\ts\n",
+];
+
+/// Jobs that the bench program refuses, with the number: the converter takes
+/// them.
+pub const REFUSED_JOBS: &[(&str, ErrorCode)] = &[
+    ("@\t0\t0\t0\t0\t0\t0%\n", 5),
+    ("@\t2048\t0\t2048\t0\t1\t1%\n0\n", 5),
+    ("@\t0\t0\t0\t65\t1\t1%\n0\n", 5),
+    ("@\t-1\t0\t0\t65\t1\t1%\n0\n", 5),
+    ("@\t0\t0\t0\t4294967295\t4294967295\t0%\n", 5),
+    // The longest line one.
+    (
+        "@\t-2147483648\t-2147483648\t-2147483648\t4294967295\t4294967295\t0%\n",
+        5,
+    ),
+    (
+        "@\t-2147483648\t-2147483648\t-2147483648\t4294967295\t0\t4294967295%\n",
+        5,
+    ),
+    ("@\t0\t0\t0\t1\t4000000000\t0%\n", 6),
+    ("@\t0\t0\t0\t1\t4294967295\t0%\n", 6),
+    ("@\t0\t0\t0\t1\t0\t4294967295%\n", 6),
+    ("@\t-1\t0\t0\t1\t0\t0%\n", 6),
+    ("@\t-1\t0\t0\t1\t1\t1%\n0\n", 11),
+    ("@\t4097\t0\t4096\t1\t1\t1%\n7\n", 11),
+    ("@\t1000\t1001\t1000\t1\t1\t1%\n7\n", 11),
+    ("@\t2147483647\t-2147483648\t2147483647\t64\t1\t1%\n0\n", 11),
+];
+
+/// A text such as [`A_JOB`] in a format and with a choice that it can name.
+pub fn written(format: Format, choice: Choice, text: &str) -> Vec<u8> {
+    assert!(format.choices().contains(&choice));
+    let named = match (format, choice) {
+        (Format::J, _) => "",
+        (Format::N, Choice::Smallest) => "\ts",
+        (Format::N, Choice::Binomial) => "\tb",
+    };
+    let text = text.replace('@', format.letter()).replace('%', named);
+    text.into_bytes()
+}
+
+/// Texts that are no jobs in a format: those listed above, by each of its
+/// choices; with what is no choice; with the letter, the fields or both of the
+/// other format.
+pub fn texts_that_are_no_jobs(format: Format) -> Vec<Vec<u8>> {
+    let mut list = Vec::new();
+    for choice in format.choices() {
+        for text in TEXTS_THAT_ARE_NO_JOBS {
+            list.push(written(format, *choice, text));
+        }
+    }
+    for no_choice in NO_CHOICES {
+        let text = format!("@\t0\t0\t0\t1\t1\t1{no_choice}\n0\n");
+        list.push(text.replace('@', format.letter()).into_bytes());
+    }
+    for one in Format::ALL {
+        for other in Format::ALL {
+            for choice in one.choices() {
+                let mut text = written(one, *choice, A_JOB);
+                text[..1].copy_from_slice(other.letter().as_bytes());
+                if (one, other) != (format, format) {
+                    list.push(text);
+                }
+            }
+        }
+    }
+    list
+}
+
+/// Numbers of the fields' types, one of the format's choices, and a small
+/// picture.
+pub fn random_job(random: &mut Random, format: Format) -> Job {
     let width = random.below(6) as u32;
     let height = random.below(6) as u32;
     Job {
@@ -729,15 +857,28 @@ pub fn random_job(random: &mut Random) -> Job {
         steps: random.bits() as u32 >> random.below(32),
         width,
         height,
+        choice: random.pick(format.choices()),
         pixels: (0..width * height)
             .map(|_| random.bits() as u16 >> random.below(16))
             .collect(),
     }
 }
 
+/// The text of such a job, whose shape mostly is close to where kernels end or
+/// one whose two choices differ.
+pub fn random_text(random: &mut Random, format: Format) -> Vec<u8> {
+    let mut job = random_job(random, format);
+    match random.below(4) {
+        0 => {}
+        1 => (job.covariance, job.steps) = random_half(random),
+        _ => (job.covariance, job.steps) = random_covariance(random),
+    }
+    print(format, &job)
+}
+
 /// A text with one or two bytes changed, left out or added.
 pub fn damaged_text(random: &mut Random, text: &[u8]) -> Vec<u8> {
-    const BYTES: &[u8] = b"0123456789-+\t\n\r JRx\0\xff";
+    const BYTES: &[u8] = b"0123456789-+\t\n\r JNRsbSx\0\xff";
     let mut text = text.to_vec();
     for _ in 0..=random.below(2) {
         let place = random.below(text.len() as u64) as usize;
@@ -752,11 +893,72 @@ pub fn damaged_text(random: &mut Random, text: &[u8]) -> Vec<u8> {
     text
 }
 
-/// A job whose text has so many bytes more than the longest that is one.
-pub fn longest_text(more: usize) -> Vec<u8> {
-    let row = vec!["7"; 90].join("\t") + "\n";
-    let text = "J\t2048\t0\t2048\t2\t90\t90\n".to_string() + &row.repeat(90);
+/// A job's N text with something else in place of the choice: what is none, or
+/// nothing.
+pub fn without_choice(random: &mut Random, text: &[u8]) -> Vec<u8> {
+    let end = text.iter().position(|byte| *byte == b'\n');
+    let end = end.expect("line one ends");
+    let instead = match random.below(8) {
+        0 => "",
+        _ => random.pick(NO_CHOICES),
+    };
+    [&text[..end - 2], instead.as_bytes(), &text[end..]].concat()
+}
+
+/// Lengths around both formats' longest.
+pub const LONG: RangeInclusive<usize> = 16_370..=16_400;
+
+/// Sides of pictures whose texts can have these lengths: with pixels of five
+/// digits, of several, and almost all of one.
+pub const LARGE_SIDES: [(u32, u32); 6] = [
+    (53, 53),
+    (1024, 7),
+    (7, 1024),
+    (90, 90),
+    (8170, 1),
+    (1, 8170),
+];
+
+/// A job's text but for its length, which is so many bytes.
+pub fn text_of_length(
+    format: Format,
+    choice: Choice,
+    (width, height): (u32, u32),
+    length: usize,
+) -> Vec<u8> {
+    let mut job = Job {
+        covariance: covariance(2048, 0, 2048),
+        steps: 2,
+        width,
+        height,
+        choice,
+        pixels: vec![7; (width * height) as usize],
+    };
     // Longer pixels make up the rest.
-    let missing = MAX_TEXT + more - text.len();
-    text.replacen("7\t7", "10\t7", missing).into_bytes()
+    let mut missing = length - print(format, &job).len();
+    for pixel in &mut job.pixels {
+        let digits = missing.min(4);
+        *pixel = [7, 10, 100, 1000, 10_000][digits];
+        missing -= digits;
+    }
+    assert_eq!(missing, 0, "{width} × {height}: {length}");
+    print(format, &job)
+}
+
+/// The text with the most pixels of all, 8184 of one digit: its first fields have
+/// one digit each, so it has as many bytes as a text may have.
+pub fn fullest_text(format: Format, choice: Choice) -> Vec<u8> {
+    let (width, height) = (93, 88);
+    let pixels = (0..width * height).map(|n| (n % 10) as u16).collect();
+    print(
+        format,
+        &Job {
+            covariance: covariance(0, 0, 0),
+            steps: 1,
+            width,
+            height,
+            choice,
+            pixels,
+        },
+    )
 }

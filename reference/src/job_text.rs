@@ -1,14 +1,49 @@
-//! The text of a bench job, and what the bench program prints for a text.
+//! The two formats of a job's text, what the bench program prints for a text,
+//! and the converter between the formats.
 
-use crate::error_code::{ErrorCode, NOT_A_JOB};
-use crate::kernel::{kernel, Covariance, Kernel};
+use crate::error_code::{require, ErrorCode, BAD_LENGTH, CANNOT_GO_BACK, NOT_A_JOB};
+use crate::kernel::{kernel_by, Choice, Covariance, Kernel};
 use crate::shape::Shape;
-use crate::smooth::{run, shown};
+use crate::smooth::{run_by, shown};
 use std::fmt::Display;
 use std::str::FromStr;
 
-/// Most bytes of a job's text.
-pub const MAX_TEXT: usize = 16_384;
+/// How a job is written, by the first byte of its text.
+#[derive(Clone, Copy, Debug, PartialEq, Eq)]
+pub enum Format {
+    /// As in the archives: it names no choice, which was the smallest then.
+    J,
+    /// As from S-4 on: the choice is written down.
+    N,
+}
+
+impl Format {
+    pub const ALL: [Format; 2] = [Format::J, Format::N];
+
+    /// The first field of line one.
+    pub fn letter(self) -> &'static str {
+        match self {
+            Format::J => "J",
+            Format::N => "N",
+        }
+    }
+
+    /// Most bytes of a text.
+    pub fn max_text(self) -> usize {
+        match self {
+            Format::J => 16_384,
+            Format::N => 16_386,
+        }
+    }
+
+    /// The choices that its texts can have.
+    pub fn choices(self) -> &'static [Choice] {
+        match self {
+            Format::J => &[Choice::Smallest],
+            Format::N => &Choice::ALL,
+        }
+    }
+}
 
 /// A job as its text gives it: any numbers of the fields' types, and w × h pixels.
 #[derive(Clone, Debug, PartialEq, Eq)]
@@ -17,6 +52,7 @@ pub struct Job {
     pub steps: u32,
     pub width: u32,
     pub height: u32,
+    pub choice: Choice,
     pub pixels: Vec<u16>,
 }
 
@@ -40,17 +76,30 @@ fn fields(line: &[u8]) -> Vec<&[u8]> {
     line.split(|byte| *byte == b'\t').collect()
 }
 
-/// The job of a text, if the text is one.
-pub fn parse(text: &[u8]) -> Option<Job> {
-    if text.len() > MAX_TEXT {
+/// A choice as the eighth field names it: s for smallest, b for the rule of S-2.
+fn named_choice(field: &[u8]) -> Option<Choice> {
+    match field {
+        b"s" => Some(Choice::Smallest),
+        b"b" => Some(Choice::Binomial),
+        _ => None,
+    }
+}
+
+/// The job of a text, if the text is one in this format.
+pub fn parse(format: Format, text: &[u8]) -> Option<Job> {
+    if text.len() > format.max_text() {
         return None;
     }
     let mut lines = text.strip_suffix(b"\n")?.split(|byte| *byte == b'\n');
-    let header = fields(lines.next()?);
+    let mut header = fields(lines.next()?);
+    let choice = match format {
+        Format::J => Choice::Smallest,
+        Format::N => named_choice(header.pop()?)?,
+    };
     let [letter, xx, xy, yy, steps, width, height] = header[..] else {
         return None;
     };
-    if letter != b"J" {
+    if letter != format.letter().as_bytes() {
         return None;
     }
     let covariance = Covariance {
@@ -81,18 +130,19 @@ pub fn parse(text: &[u8]) -> Option<Job> {
         steps,
         width,
         height,
+        choice,
         pixels,
     };
-    // A job has one text only.
-    debug_assert_eq!(print(&job), text);
+    // A job has one text only in each format.
+    debug_assert_eq!(print(format, &job), text);
     Some(job)
 }
 
-fn line(letter: Option<&str>, numbers: &[impl Display]) -> String {
+fn line(letter: Option<&str>, fields: &[impl Display]) -> String {
     let fields: Vec<String> = letter
         .map(String::from)
         .into_iter()
-        .chain(numbers.iter().map(|number| number.to_string()))
+        .chain(fields.iter().map(|field| field.to_string()))
         .collect();
     fields.join("\t") + "\n"
 }
@@ -105,18 +155,26 @@ fn rows(width: u32, pixels: &[u16]) -> String {
         .collect()
 }
 
-/// The text of a job.
-pub fn print(job: &Job) -> Vec<u8> {
+/// The text of a job in a format that can name its choice.
+pub fn print(format: Format, job: &Job) -> Vec<u8> {
     let Covariance { xx, xy, yy } = job.covariance;
-    let numbers = [
+    let mut header: Vec<String> = [
         i64::from(xx),
         i64::from(xy),
         i64::from(yy),
         i64::from(job.steps),
         i64::from(job.width),
         i64::from(job.height),
-    ];
-    (line(Some("J"), &numbers) + &rows(job.width, &job.pixels)).into_bytes()
+    ]
+    .map(|number| number.to_string())
+    .to_vec();
+    match (format, job.choice) {
+        (Format::J, Choice::Smallest) => {}
+        (Format::J, Choice::Binomial) => panic!("a J text has the smallest choice"),
+        (Format::N, Choice::Smallest) => header.push("s".to_string()),
+        (Format::N, Choice::Binomial) => header.push("b".to_string()),
+    }
+    (line(Some(format.letter()), &header) + &rows(job.width, &job.pixels)).into_bytes()
 }
 
 /// The greatest common divisor.
@@ -136,12 +194,13 @@ pub fn reduced(kernel: &Kernel) -> [u64; 10] {
     numbers.map(|number| number / divisor)
 }
 
-/// Runs a job between two pictures, its text naming no choice: its kernel and
-/// the picture after all steps; refusals 5, 6, 11.
+/// Runs a job between two pictures by its choice: its kernel and the picture
+/// after all steps; refusals 5, 6, 11.
 pub fn run_job(job: &Job) -> Result<(Kernel, Vec<u16>), ErrorCode> {
     let mut first = job.pixels.clone();
     let mut second = vec![0; job.pixels.len()];
-    run(
+    run_by(
+        job.choice,
         Shape::Matrix(job.covariance),
         job.steps,
         job.width,
@@ -149,13 +208,14 @@ pub fn run_job(job: &Job) -> Result<(Kernel, Vec<u16>), ErrorCode> {
         &mut first,
         &mut second,
     )?;
-    let kernel = kernel(job.covariance, job.steps)?;
+    let kernel = kernel_by(job.choice, job.covariance, job.steps)?;
     Ok((kernel, shown(job.steps, &first, &second).to_vec()))
 }
 
-/// What the bench program prints for the text on its standard input.
+/// What the bench program, which takes N only, prints for the text on its
+/// standard input.
 pub fn answer(text: &[u8]) -> Vec<u8> {
-    let outcome = parse(text)
+    let outcome = parse(Format::N, text)
         .ok_or(NOT_A_JOB)
         .and_then(|job| run_job(&job).map(|(kernel, pixels)| (job, kernel, pixels)));
     match outcome {
@@ -167,4 +227,22 @@ pub fn answer(text: &[u8]) -> Vec<u8> {
         }
     }
     .into_bytes()
+}
+
+/// The converter from J to N: reads the job and writes it in the other format,
+/// where its choice is named; refusals 1, 9.
+pub fn convert_j_to_n(text: &[u8], out: &mut [u8]) -> Result<(), ErrorCode> {
+    let job = parse(Format::J, text).ok_or(NOT_A_JOB)?;
+    require(out.len() == text.len() + 2, BAD_LENGTH)?;
+    out.copy_from_slice(&print(Format::N, &job));
+    Ok(())
+}
+
+/// The converter from N to J, which can name no choice; refusals 1, 14, 9.
+pub fn convert_n_to_j(text: &[u8], out: &mut [u8]) -> Result<(), ErrorCode> {
+    let job = parse(Format::N, text).ok_or(NOT_A_JOB)?;
+    require(job.choice == Choice::Smallest, CANNOT_GO_BACK)?;
+    require(out.len() + 2 == text.len(), BAD_LENGTH)?;
+    out.copy_from_slice(&print(Format::J, &job));
+    Ok(())
 }

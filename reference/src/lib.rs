@@ -7,7 +7,7 @@
 //! definition and a shorter test it uses the definition (the existence of a
 //! kernel) and leaves the shorter test to the tests.
 //!
-//! - [`error_code`]: the thirteen numbered refusals and the checks several calls share.
+//! - [`error_code`]: the fourteen numbered refusals and the checks several calls share.
 //! - [`kernel`]: does a kernel exist, which f a choice takes, and the nine weights of the molecule.
 //! - [`shape`]: Matrix, Round and Oval to a covariance in 1/4096 square pixel.
 //! - [`smooth`]: the pixel at a place, a step, a run, the exact run and the distance from it.
@@ -17,7 +17,8 @@
 //!   or the new ones, and the change-over between them.
 //! - [`words`]: a record of either rules as the words that callers lend.
 //! - [`lists`]: demand 3 as a check of lists of calls, of this service or another.
-//! - [`job_text`]: the text of a bench job, and what the bench program prints.
+//! - [`job_text`]: the two formats of a job's text, what the bench program prints, and the
+//!   converter between the formats.
 //! - [`natural`]: whole numbers of any size, for the exact run.
 //! - [`random`]: repeatable pseudo-random numbers.
 //! - [`generate`]: inputs for tests and test vectors, border cases first.

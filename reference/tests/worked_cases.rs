@@ -32,10 +32,17 @@ const HOLLOW: [u16; 9] = [0, 400, 0, 400, 0, 400, 0, 400, 0];
 
 #[test]
 fn a_listing() {
-    let text = b"J\t2048\t0\t2048\t1\t3\t3\n0\t0\t0\n0\t1600\t0\n0\t0\t0\n";
+    let text = b"N\t2048\t0\t2048\t1\t3\t3\tb\n0\t0\t0\n0\t1600\t0\n0\t0\t0\n";
     let printed = "K\t16\t1\t2\t1\t2\t4\t2\t1\t2\t1\nP\t3\t3\n\
                    100\t200\t100\n200\t400\t200\n100\t200\t100\n";
     assert_eq!(answer(text), printed.as_bytes());
+    let text = b"N\t2048\t0\t2048\t1\t3\t3\ts\n0\t0\t0\n0\t1600\t0\n0\t0\t0\n";
+    let printed = "K\t4\t0\t1\t0\t1\t0\t1\t0\t1\t0\nP\t3\t3\n\
+                   0\t400\t0\n400\t0\t400\n0\t400\t0\n";
+    assert_eq!(answer(text), printed.as_bytes());
+    // The listing's text from before S-4 is no job any more.
+    let text = b"J\t2048\t0\t2048\t1\t3\t3\n0\t0\t0\n0\t1600\t0\n0\t0\t0\n";
+    assert_eq!(answer(text), b"R\t1\n");
 }
 
 #[test]
@@ -127,10 +134,15 @@ fn free_numbers_of_the_cases() {
 
 #[test]
 fn b_prints_the_centre_only() {
-    assert_eq!(
-        answer(b"J\t0\t0\t0\t1\t1\t1\n65535\n"),
-        b"K\t1\t0\t0\t0\t0\t1\t0\t0\t0\t0\nP\t1\t1\n65535\n"
-    );
+    for text in [
+        b"N\t0\t0\t0\t1\t1\t1\ts\n65535\n",
+        b"N\t0\t0\t0\t1\t1\t1\tb\n65535\n",
+    ] {
+        assert_eq!(
+            answer(text),
+            b"K\t1\t0\t0\t0\t0\t1\t0\t0\t0\t0\nP\t1\t1\n65535\n"
+        );
+    }
 }
 
 #[test]

@@ -1,10 +1,11 @@
-//! The thirteen numbered refusals (docs/REFERENCE.md, "Refusals in checking order").
+//! The fourteen numbered refusals (docs/REFERENCE.md, "Refusals in checking order").
 
 use std::fmt;
 
 /// A refusal. A call that is refused has changed nothing: no record, no store and nothing that it was lent.
 ///
-/// There are thirteen, in checking order: each call checks those that concern it in this order and answers the first that applies.
+/// There are fourteen, in checking order: each call checks those that concern it in this order and answers the first that applies.
+/// The last is out of its turn: it comes after the first, and so before 9.
 /// `Display` writes the refusal's sentence, the one that the C header's `vokhsaot_refusal_text` has.
 ///
 /// ```
@@ -17,8 +18,12 @@ use std::fmt;
 /// ```
 #[derive(Clone, Copy, Debug, PartialEq, Eq, Hash)]
 pub enum Error {
-    /// 1: a text is not the one spelling of a job, or is too long. It stands in an answer of [`answer_text`](crate::answer_text),
-    /// and no call of this crate returns it.
+    /// 1: a text is not the one spelling of a job in the format that the call takes, or is too long. [`convert_j_to_n`] and
+    /// [`convert_n_to_j`] return it; of [`answer_text`] it stands in the answer.
+    ///
+    /// [`convert_j_to_n`]: crate::convert_j_to_n
+    /// [`convert_n_to_j`]: crate::convert_n_to_j
+    /// [`answer_text`]: crate::answer_text
     TextIsNoJob,
     /// 2: the record of a service is not in order, or, in the calls that work in the store
     /// ([`submit`](crate::Service::submit), [`tick`](crate::Service::tick), [`collect`](crate::Service::collect)), the store's
@@ -40,7 +45,8 @@ pub enum Error {
     NoSuchJob,
     /// 8: the job that is to be collected has steps left.
     StepsAreLeft,
-    /// 9: the length of a lent picture or result is not width × height.
+    /// 9: the length of a lent picture or result is not width × height, or that of the converter's output is not two bytes more or
+    /// less than the text's.
     WrongLength,
     /// 10: a submitted picture has more than [`BUFFER_PIXELS`](crate::BUFFER_PIXELS) pixels.
     TooManyPixels,
@@ -51,9 +57,11 @@ pub enum Error {
     NoFreeBuffers,
     /// 13: the last job number given is 2^64 − 1.
     NumbersUsedUp,
+    /// 14: an N text whose choice is b cannot go back to J, which names no choice and means the smallest. It comes after 1.
+    CannotGoBack,
 }
 
-const ALL: [Error; 13] = [
+const ALL: [Error; 14] = [
     Error::TextIsNoJob,
     Error::RecordOutOfOrder,
     Error::VarianceOutOfRange,
@@ -67,15 +75,16 @@ const ALL: [Error; 13] = [
     Error::NoKernel,
     Error::NoFreeBuffers,
     Error::NumbersUsedUp,
+    Error::CannotGoBack,
 ];
 
 impl Error {
-    /// The refusal's number, 1 to 13.
+    /// The refusal's number, 1 to 14.
     pub fn number(self) -> u32 {
         self as u32 + 1
     }
 
-    /// The refusal of this number; `None` where it is not 1 to 13.
+    /// The refusal of this number; `None` where it is not 1 to 14.
     pub fn from_number(number: u32) -> Option<Error> {
         ALL.into_iter().find(|error| error.number() == number)
     }
@@ -84,7 +93,7 @@ impl Error {
 impl fmt::Display for Error {
     fn fmt(&self, f: &mut fmt::Formatter<'_>) -> fmt::Result {
         f.write_str(match self {
-            Error::TextIsNoJob => "The bench text is not a job.",
+            Error::TextIsNoJob => "The text is not a job.",
             Error::RecordOutOfOrder => {
                 "The service record is not in order, or the store's length is not 16,384."
             }
@@ -103,6 +112,7 @@ impl fmt::Display for Error {
             Error::NoKernel => "No kernel exists.",
             Error::NoFreeBuffers => "Fewer than two buffers are free.",
             Error::NumbersUsedUp => "The last number given is 2^64 − 1.",
+            Error::CannotGoBack => "An N text with b cannot go back to J.",
         })
     }
 }
@@ -123,12 +133,12 @@ mod tests {
 
     #[test]
     fn numbers_and_sentences() {
-        for number in 1..=13 {
+        for number in 1..=14 {
             let error = Error::from_number(number).unwrap();
             assert_eq!(error.number(), number);
             assert!(error.to_string().ends_with('.'));
         }
         assert_eq!(Error::from_number(0), None);
-        assert_eq!(Error::from_number(14), None);
+        assert_eq!(Error::from_number(15), None);
     }
 }

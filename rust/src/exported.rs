@@ -215,6 +215,18 @@ extern "C" {
         out_len: usize,
         length: *mut usize,
     ) -> u32;
+    pub fn vokhsaot_convert_j_to_n(
+        text: *const u8,
+        text_len: usize,
+        out: *mut u8,
+        out_len: usize,
+    ) -> u32;
+    pub fn vokhsaot_convert_n_to_j(
+        text: *const u8,
+        text_len: usize,
+        out: *mut u8,
+        out_len: usize,
+    ) -> u32;
 }
 
 #[cfg(test)]

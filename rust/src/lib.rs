@@ -22,6 +22,7 @@
 //!
 //! [`run`] does the same between two lent pictures, of which [`shown`] has the last step. [`kernel`] gives a shape's weights,
 //! [`difference`] and [`directional`] the differences of a picture, and [`answer_text`] what the bench program prints.
+//! [`convert_j_to_n`] takes texts from the archives of before the choice over to those of today, and [`convert_n_to_j`] back.
 //!
 //! # Pictures
 //!
@@ -51,6 +52,8 @@
 //! | a matrix, in 1/4096 square pixel | xx and yy at most 4096 × steps, \|xy\| at most the smaller of them |
 //! | jobs of a service at a time | 8, [`SEATS`] |
 //! | pixels of a job's picture | 1024, [`BUFFER_PIXELS`] |
+//! | a job text, which begins with N | 16,386 bytes, [`TEXT_BYTES`] |
+//! | an archived text, which begins with J | 16,384 bytes, [`ARCHIVED_TEXT_BYTES`] |
 //!
 //! # The service
 //!
@@ -111,4 +114,6 @@ pub use picture::{
 };
 pub use service::{Job, NotChangedOver, Service};
 pub use shape::{covariance, kernel, kernel_by, Choice, Covariance, Direction, Kernel, Shape};
-pub use text::answer_text;
+pub use text::{
+    answer_text, convert_j_to_n, convert_j_to_n_into, convert_n_to_j, convert_n_to_j_into,
+};

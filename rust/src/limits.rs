@@ -61,8 +61,12 @@ pub const COVARIANCE_ENTRIES: usize = 3;
 /// Numbers of a kernel: the sum and nine weights.
 pub const KERNEL_NUMBERS: usize = 10;
 
-/// Bytes of the longest job text; a longer one is no job.
-pub const TEXT_BYTES: usize = 16_384;
+/// Bytes of the longest job text, which begins with N; a longer one is no job.
+pub const TEXT_BYTES: usize = ARCHIVED_TEXT_BYTES + CHOICE_BYTES;
+/// Bytes of the longest archived text, which begins with J; a longer one is no job.
+pub const ARCHIVED_TEXT_BYTES: usize = 16_384;
+/// Bytes by which an N text is longer than the J text of the same job: the tab and the letter of its choice.
+pub const CHOICE_BYTES: usize = 2;
 /// No answer to a text has more bytes.
 pub const ANSWER_BYTES: usize = 49_240;
 
@@ -77,5 +81,6 @@ mod tests {
         assert_eq!((SEAT_F, SEAT_F + 1), (OLD_SEAT_WORDS, SEAT_WORDS));
         let last = [WORD_LAST_NUMBER, WORD_LAST_FILLED, WORD_LAST_SERVED];
         assert!(last.into_iter().eq(SEATS * SEAT_WORDS..WORDS));
+        assert_eq!(TEXT_BYTES, 16_386);
     }
 }

@@ -1,5 +1,5 @@
 #!/usr/bin/env python3
-"""Thirty-seven faults, one at a time, in a copy of the independent program: the comparison has to find each.
+"""Sixty-four faults, one at a time, in a copy of the independent program: the comparison has to find each.
 
 Usage: faults.py FOLDER, the folder that has libcapi.a. A fault counts as found where the test named beside it fails at a
 comparison, in one of the test files or in the sentences of demand 3; a fault that the copy finds in itself does not.
@@ -17,6 +17,12 @@ import tempfile
 SMALLEST = "    /// The smallest f with which no weight is negative (K9).\n"
 DEFAULT = "    #[default]\n    Binomial,\n" + SMALLEST + "    Smallest,\n"
 DEFAULT_SMALLEST = "    Binomial,\n" + SMALLEST + "    #[default]\n    Smallest,\n"
+
+# The converter's checks, from J to N and from N to J.
+J_LENGTH = "    require(out.len() == text.len() + 2, BAD_LENGTH)?;\n"
+N_JOB = "    let job = parse(Format::N, text).ok_or(NOT_A_JOB)?;\n"
+N_CHOICE = "    require(job.choice == Choice::Smallest, CANNOT_GO_BACK)?;\n"
+N_LENGTH = "    require(out.len() + 2 == text.len(), BAD_LENGTH)?;\n"
 
 # (what is wrong, file below reference/src, the text there, the text instead, the test that has to find it)
 FAULTS = [
@@ -58,8 +64,12 @@ FAULTS = [
     ("the choice is not looked at", "kernel.rs", "    match choice {\n", "    match Choice::Binomial {\n", "kernels"),
     # Who goes by which choice.
     ("no choice is the smallest one", "kernel.rs", DEFAULT, DEFAULT_SMALLEST, "pictures"),
-    ("a text's pixels are of the smallest choice", "job_text.rs", "    run(\n        Shape::Matrix(job.covariance),\n",
-     "    crate::smooth::run_by(\n        crate::kernel::Choice::Smallest,\n        Shape::Matrix(job.covariance),\n", "texts"),
+    ("a text's pixels are of the smallest choice", "job_text.rs", "        job.choice,\n        Shape::Matrix",
+     "        Choice::Smallest,\n        Shape::Matrix", "texts"),
+    ("a text's pixels go by S-2's rule whatever it names", "job_text.rs", "        job.choice,\n        Shape::Matrix",
+     "        Choice::Binomial,\n        Shape::Matrix", "texts"),
+    ("a text's kernel line goes by S-2's rule whatever it names", "job_text.rs", "kernel_by(job.choice, job.covariance",
+     "kernel_by(Choice::Binomial, job.covariance", "texts"),
     ("a submit that names no choice has the smallest", "service.rs", "named.unwrap_or_default()", "named.unwrap_or(Choice::Smallest)",
      "service_lists"),
     ("a submit keeps the smallest f for both choices", "service.rs", "let f = free_number_by(choice, xx",
@@ -97,6 +107,46 @@ FAULTS = [
     ("the change-over checks 9 before 2", "words.rs", "    let old = record_of(Rules::Old, old_words).ok_or(SERVICE_NOT_IN_ORDER)?;\n",
      "    require(words.len() == record_words(Rules::New), BAD_LENGTH)?;\n"
      "    let old = record_of(Rules::Old, old_words).ok_or(SERVICE_NOT_IN_ORDER)?;\n", "change_over"),
+    # The choice of a text, and the two formats.
+    ("b is taken for s", "job_text.rs", "b\"b\" => Some(Choice::Binomial)", "b\"b\" => Some(Choice::Smallest)", "texts"),
+    ("sb is taken for s", "job_text.rs", "b\"s\" => Some", "[b's', ..] => Some", "texts"),
+    ("S is taken for s", "job_text.rs", "b\"s\" => Some", "b\"s\" | b\"S\" => Some", "texts"),
+    ("no letter is taken for b", "job_text.rs", "b\"b\" => Some", "b\"\" | b\"b\" => Some", "texts"),
+    ("an N text may leave its choice out", "job_text.rs", "Format::N => named_choice(header.pop()?)?,",
+     "Format::N if header.len() == 7 => Choice::Binomial,\n        Format::N => named_choice(header.pop()?)?,", "texts"),
+    ("a text's letter is not looked at", "job_text.rs", "if letter != format.letter().as_bytes() {", "if letter.len() != 1 {", "texts"),
+    ("the bench program takes a J", "job_text.rs", "    let outcome = parse(Format::N, text)\n",
+     "    let outcome = parse(Format::N, text)\n        .or_else(|| parse(Format::J, text))\n", "texts"),
+    ("a J text may have 16,386 bytes too", "job_text.rs", "Format::J => 16_384,", "Format::J => 16_386,", "texts"),
+    ("an N text may have 16,384 bytes only", "job_text.rs", "Format::N => 16_386,", "Format::N => 16_384,", "texts"),
+    ("an N text may have a byte more", "job_text.rs", "Format::N => 16_386,", "Format::N => 16_387,", "texts"),
+    ("a text as long as may be is too long", "job_text.rs", "text.len() > format.max_text()", "text.len() >= format.max_text()", "texts"),
+    # The converter.
+    ("the converter gives an archived text b", "job_text.rs", "    out.copy_from_slice(&print(Format::N, &job));\n",
+     "    out.copy_from_slice(&print(Format::N, &Job { choice: Choice::Binomial, ..job }));\n", "texts"),
+    ("the converter takes a text with b back to J", "job_text.rs", N_CHOICE, "    let job = Job { choice: Choice::Smallest, ..job };\n", "texts"),
+    ("the converter loses the last newline", "job_text.rs", "    out.copy_from_slice(&print(Format::J, &job));\n",
+     "    let last = out.len() - 1;\n    out[..last].copy_from_slice(&print(Format::J, &job)[..last]);\n", "texts"),
+    ("the converter checks 9 before 1", "job_text.rs", "    let job = parse(Format::J, text).ok_or(NOT_A_JOB)?;\n" + J_LENGTH,
+     J_LENGTH + "    let job = parse(Format::J, text).ok_or(NOT_A_JOB)?;\n", "texts"),
+    ("the converter checks 9 before 14", "job_text.rs", N_CHOICE + N_LENGTH, N_LENGTH + N_CHOICE, "texts"),
+    ("the converter checks 14 before 1", "job_text.rs", N_JOB,
+     "    let line_one = text.split(|byte| *byte == b'\\n').next();\n"
+     "    require(!line_one.is_some_and(|line| line.ends_with(b\"\\tb\")), CANNOT_GO_BACK)?;\n" + N_JOB, "texts"),
+    ("the converter checks 5", "job_text.rs", J_LENGTH, "    crate::error_code::check_steps(job.steps)?;\n" + J_LENGTH, "texts"),
+    ("the converter checks 6", "job_text.rs", N_LENGTH, "    crate::error_code::check_sides(job.width, job.height)?;\n" + N_LENGTH, "texts"),
+    ("the converter checks 11", "job_text.rs", J_LENGTH,
+     "    require(kernel_by(job.choice, job.covariance, job.steps) != Err(11), 11)?;\n" + J_LENGTH, "texts"),
+    ("a longer output is taken", "job_text.rs", J_LENGTH + "    out.copy_from_slice(",
+     "    require(out.len() >= text.len() + 2, BAD_LENGTH)?;\n    out[..text.len() + 2].copy_from_slice(", "texts"),
+    ("a shorter output is taken", "job_text.rs", N_LENGTH + "    out.copy_from_slice(&print(Format::J, &job));\n",
+     "    require(out.len() + 2 <= text.len(), BAD_LENGTH)?;\n    out.copy_from_slice(&print(Format::J, &job)[..out.len()]);\n", "texts"),
+    ("the converter has written when it answers 14", "job_text.rs", N_CHOICE,
+     "    if let Some(byte) = out.first_mut() {\n        *byte = b'J';\n    }\n" + N_CHOICE, "texts"),
+    ("the converter has written when it answers 9", "job_text.rs", J_LENGTH,
+     "    for (byte, new) in out.iter_mut().zip(print(Format::N, &job)) {\n        *byte = new;\n    }\n" + J_LENGTH, "texts"),
+    ("the converter has written when it answers 1", "job_text.rs", N_JOB,
+     "    for (byte, read) in out.iter_mut().zip(text) {\n        *byte = *read;\n    }\n" + N_JOB, "texts"),
 ]
 
 
@@ -108,7 +158,8 @@ def main() -> int:
         work = pathlib.Path(work)
         for part in ("reference", "rust"):
             shutil.copytree(root / part, work / part, ignore=shutil.ignore_patterns("target"))
-        environment = dict(os.environ, VOKHSAOT_LIB_DIR=library, CARGO_TARGET_DIR=str(work / "target"))
+        # incremental: a fault changes one file, and half of the time went into compiling the others again
+        environment = dict(os.environ, VOKHSAOT_LIB_DIR=library, CARGO_TARGET_DIR=str(work / "target"), CARGO_INCREMENTAL="1")
         for name, file, right, wrong, test in FAULTS:
             path = work / "reference" / "src" / file
             text = path.read_text()

@@ -57,6 +57,8 @@ fn limits_and_layout() {
         COVARIANCE_ENTRIES,
         KERNEL_NUMBERS,
         TEXT_BYTES,
+        ARCHIVED_TEXT_BYTES,
+        CHOICE_BYTES,
         ANSWER_BYTES,
     ];
     assert_eq!(macros(), own);

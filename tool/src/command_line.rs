@@ -2,8 +2,8 @@
 
 use crate::error::{Failure, Outcome, TROUBLE};
 use crate::files;
-use crate::{compare, completions, difference, even, horizon, kernel, manual, mixture, noise};
-use crate::{practice, replay, show, smooth, soak, stats, steps};
+use crate::{compare, completions, convert, difference, even, horizon, kernel, manual, mixture};
+use crate::{noise, practice, replay, show, smooth, soak, stats, steps};
 use clap::builder::{Resettable, StyledStr, ValueParser};
 use clap::error::{ContextKind, ContextValue, ErrorKind};
 use clap::{Arg, CommandFactory, FromArgMatches, Parser, Subcommand, ValueHint};
@@ -28,7 +28,7 @@ pub const EXIT_STATUSES: [(u8, &str); 3] = [
     (0, "done, and nothing is amiss"),
     (
         1,
-        "something differs, a promise is broken, there is no kernel, or nothing was judged",
+        "something differs, a promise is broken, there is no kernel, a text was not converted, or nothing was judged",
     ),
     (
         TROUBLE,
@@ -57,6 +57,7 @@ pub enum Command {
     Replay(replay::Options),
     Soak(soak::Options),
     Practice(practice::Options),
+    Convert(convert::Options),
     Mixture(mixture::Options),
     Horizon(horizon::Options),
     Even(even::Options),
@@ -78,6 +79,7 @@ impl Command {
             Command::Replay(options) => replay::command(options),
             Command::Soak(options) => soak::command(options),
             Command::Practice(options) => practice::command(options),
+            Command::Convert(options) => convert::command(options),
             Command::Mixture(options) => mixture::command(options),
             Command::Horizon(options) => horizon::command(options),
             Command::Even(options) => even::command(options),

@@ -6,7 +6,8 @@ use crate::interrupt;
 use crate::pictures::{self, Picture};
 use std::ffi::OsStr;
 use std::fs::{self, File, OpenOptions};
-use std::io::{self, BufReader, ErrorKind, IsTerminal, Write};
+use std::io::{self, BufReader, ErrorKind, IsTerminal, Read, Write};
+use std::os::unix::fs::MetadataExt;
 use std::path::{Path, PathBuf};
 
 /// The name that stands for standard input and standard output.
@@ -47,6 +48,32 @@ pub fn read_picture(name: &OsStr) -> Result<Picture, Failure> {
         pictures::read(&mut BufReader::with_capacity(1 << 16, file))
     };
     picture.map_err(|message| fault(input_name(name), message))
+}
+
+/// Reads a text, or its first so many bytes where it is longer: nobody waits for the end of one that is too long anyway.
+pub fn read_text(name: &OsStr, most: usize) -> Result<Vec<u8>, Failure> {
+    let text = if is_standard(name) {
+        let input = io::stdin().lock();
+        if input.is_terminal() {
+            let message = "no text is named, and standard input is a terminal";
+            return Err(Failure::Input(message.to_owned()));
+        }
+        beginning(input, most)
+    } else {
+        read_beginning(Path::new(name), most)
+    };
+    text.map_err(|error| fault(input_name(name), error))
+}
+
+/// The first so many bytes of a file, or all.
+pub fn read_beginning(path: &Path, most: usize) -> io::Result<Vec<u8>> {
+    beginning(File::open(path)?, most)
+}
+
+fn beginning(input: impl Read, most: usize) -> io::Result<Vec<u8>> {
+    let mut bytes = Vec::new();
+    input.take(most as u64).read_to_end(&mut bytes)?;
+    Ok(bytes)
 }
 
 /// Prints on standard output. A reader that has seen enough and went away ends the command without a word.
@@ -105,22 +132,29 @@ impl Target {
             };
         }
         match path.file_name() {
-            // A path takes no notice of a slash at its end.
-            Some(file) if !path.to_string_lossy().ends_with('/') => {
+            Some(file) if is_file_name(path) => {
                 let folder = resolved(name, folder_of(path))?;
                 Ok(Target::File(folder.join(file)))
             }
-            _ => Err(fault(name, "this is no file's name")),
+            _ => Err(fault(name, NO_FILE_NAME)),
         }
     }
 }
 
+const NO_FILE_NAME: &str = "this is no file's name";
+
+/// Whether a path can be that of a new file. The path itself takes no notice of a slash at its end.
+fn is_file_name(path: &Path) -> bool {
+    path.file_name().is_some() && !path.to_string_lossy().ends_with('/')
+}
+
 /// The place that links lead to.
-fn resolved(name: &OsStr, path: &Path) -> Result<PathBuf, Failure> {
+pub fn resolved(name: &OsStr, path: &Path) -> Result<PathBuf, Failure> {
     fs::canonicalize(path).map_err(|error| fault(name, error))
 }
 
-fn folder_of(path: &Path) -> &Path {
+/// The folder that a file or folder lies in.
+pub fn folder_of(path: &Path) -> &Path {
     match path.parent() {
         Some(folder) if folder != Path::new("") => folder,
         _ => Path::new("."),
@@ -135,8 +169,8 @@ struct Staged {
 
 impl Staged {
     fn new(place: PathBuf, bytes: &[u8]) -> io::Result<Staged> {
-        let (temporary, mut file) = Staged::create(folder_of(&place))?;
-        interrupt::add_temporary(&temporary);
+        let create = || Staged::create(folder_of(&place));
+        let (temporary, mut file) = interrupt::make_temporary(create)?;
         let staged = Staged { temporary, place };
         if let Ok(old) = fs::metadata(&staged.place) {
             file.set_permissions(old.permissions())?;
@@ -158,6 +192,33 @@ impl Staged {
                 file => return file.map(|file| (path, file)),
             }
         }
+    }
+
+    /// Puts the file in its place if nothing has that name, and tells whether it did. A link never replaces anything, whoever
+    /// takes the name meanwhile.
+    fn place_new(&self) -> io::Result<bool> {
+        match fs::hard_link(&self.temporary, &self.place) {
+            Ok(()) => Ok(true),
+            Err(error) if error.kind() == ErrorKind::AlreadyExists => Ok(false),
+            // Not every file system has links.
+            Err(_) => self.place_claimed(),
+        }
+    }
+
+    /// The same without links: an empty file takes the name, and is replaced by the whole one.
+    fn place_claimed(&self) -> io::Result<bool> {
+        let place = &self.place;
+        let claim = || Ok((place.clone(), File::create_new(place)?));
+        match interrupt::make_temporary(claim) {
+            Err(error) if error.kind() == ErrorKind::AlreadyExists => return Ok(false),
+            claimed => _ = claimed?,
+        }
+        let placed = fs::rename(&self.temporary, place);
+        if placed.is_err() {
+            let _ = fs::remove_file(place);
+        }
+        interrupt::forget_temporary(place);
+        placed.map(|()| true)
     }
 }
 
@@ -227,4 +288,88 @@ pub fn write_all(outputs: &[(&OsStr, Vec<u8>)]) -> Result<(), Failure> {
         fs::rename(&file.temporary, &file.place).map_err(|error| fault(name, error))?;
     }
     Ok(())
+}
+
+/// Writes a file that is not there yet: all of it, or nothing. False where something has its name, be it a link that leads
+/// nowhere, and then nothing is changed.
+pub fn write_new_file(place: &Path, bytes: &[u8]) -> io::Result<bool> {
+    match fs::symlink_metadata(place) {
+        Ok(_) => Ok(false),
+        Err(_) => Staged::new(place.to_owned(), bytes)?.place_new(),
+    }
+}
+
+/// The same under any name: standard output, devices and pipes are written to.
+pub fn write_new(name: &OsStr, bytes: &[u8]) -> Result<bool, Failure> {
+    if is_standard(name) {
+        print(bytes)?;
+        return Ok(true);
+    }
+    let path = Path::new(name);
+    let written = match fs::metadata(path) {
+        Ok(found) if found.is_dir() => return Err(fault(name, "this is a folder")),
+        Ok(found) if !found.is_file() => fs::write(path, bytes).map(|()| true),
+        Err(_) if !is_file_name(path) => return Err(fault(name, NO_FILE_NAME)),
+        _ => write_new_file(path, bytes),
+    };
+    written.map_err(|error| fault(name, error))
+}
+
+/// Whether two names are one file or folder, by whatever links.
+pub fn is_same(one: &Path, other: &Path) -> bool {
+    let place = |path| fs::metadata(path).map(|found| (found.dev(), found.ino()));
+    matches!((place(one), place(other)), (Ok(one), Ok(other)) if one == other)
+}
+
+#[cfg(test)]
+mod tests {
+    use super::*;
+    use std::os::unix::fs::symlink;
+
+    /// An empty folder.
+    fn folder(name: &str) -> PathBuf {
+        let name = format!("vokhsaot-{}-{name}", std::process::id());
+        let path = std::env::temp_dir().join(name);
+        fs::create_dir(&path).unwrap();
+        path
+    }
+
+    /// By a link and without one: a new file is whole, what has the name is left, and nothing else stays behind.
+    #[test]
+    fn new_files_replace_nothing() {
+        type Placing = fn(&Staged) -> io::Result<bool>;
+        let folder = folder("new");
+        let placings: [(&str, Placing); 2] = [
+            ("link", Staged::place_new),
+            ("claim", Staged::place_claimed),
+        ];
+        for (name, placing) in placings {
+            let path = folder.join(name);
+            let staged = Staged::new(path.clone(), b"new").unwrap();
+            assert!(placing(&staged).unwrap());
+            drop(staged);
+            // The second comes too late.
+            let staged = Staged::new(path.clone(), b"newer").unwrap();
+            assert!(!placing(&staged).unwrap());
+            drop(staged);
+            assert_eq!(fs::read(&path).unwrap(), b"new");
+            let nowhere = folder.join(format!("{name}-nowhere"));
+            symlink("none", &nowhere).unwrap();
+            let staged = Staged::new(nowhere.clone(), b"new").unwrap();
+            assert!(!placing(&staged).unwrap());
+            drop(staged);
+            assert!(nowhere.symlink_metadata().unwrap().is_symlink());
+            // Without the file that is to be placed there is none, not an empty one either.
+            let staged = Staged::new(folder.join("gone"), b"new").unwrap();
+            fs::remove_file(&staged.temporary).unwrap();
+            assert!(placing(&staged).is_err());
+        }
+        let mut names: Vec<_> = fs::read_dir(&folder)
+            .unwrap()
+            .map(|entry| entry.unwrap().file_name())
+            .collect();
+        names.sort();
+        assert_eq!(names, ["claim", "claim-nowhere", "link", "link-nowhere"]);
+        fs::remove_dir_all(folder).unwrap();
+    }
 }

@@ -1,7 +1,8 @@
 //! What happens where somebody ends the program from outside (Ctrl-C, a signal to end): no temporary file is left, and a soak
 //! tells what it has found so far.
 
-use std::fs;
+use std::fs::{self, File};
+use std::io;
 use std::path::{Path, PathBuf};
 use std::sync::atomic::{AtomicBool, Ordering};
 use std::sync::{Mutex, MutexGuard, PoisonError};
@@ -42,9 +43,14 @@ pub fn asked() -> bool {
     ASKED.load(Ordering::Relaxed)
 }
 
-/// A file that is to vanish with the program.
-pub fn add_temporary(file: &Path) {
-    temporary().push(file.to_owned());
+/// Makes a file that is to vanish with the program. The program does not end in between, so none is left that nobody knows of.
+pub fn make_temporary(
+    make: impl FnOnce() -> io::Result<(PathBuf, File)>,
+) -> io::Result<(PathBuf, File)> {
+    let mut files = temporary();
+    let (path, file) = make()?;
+    files.push(path.clone());
+    Ok((path, file))
 }
 
 /// The file is in its place, or gone.

@@ -1,9 +1,11 @@
 //! The testers' command-line tool of the proved picture smoother. Results come from the proved library, and what they are
 //! judged by from the independent program in `reference/`; the tool reads, writes and compares.
 
+mod archive;
 mod command_line;
 mod compare;
 mod completions;
+mod convert;
 mod difference;
 mod error;
 mod even;
@@ -11,6 +13,7 @@ mod exact;
 mod files;
 mod horizon;
 mod interrupt;
+mod job_text;
 mod judge;
 mod kernel;
 mod ledger;

@@ -37,7 +37,7 @@ pub fn choice_of(choice: Choice) -> ReferenceChoice {
 
 /// A refusal of the independent program.
 pub fn refusal(number: u8) -> Error {
-    Error::from_number(number.into()).expect("the independent program refuses by numbers 1 to 13")
+    Error::from_number(number.into()).expect("the independent program refuses by numbers 1 to 14")
 }
 
 /// The independent service, by the rules that its record says.

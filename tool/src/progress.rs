@@ -46,6 +46,14 @@ impl Progress {
         }
     }
 
+    /// Prints something else while the bar is away, so that no line of it is written into the bar.
+    pub fn aside<T>(&self, print: impl FnOnce() -> T) -> T {
+        match &self.0 {
+            Some(watched) => watched.bar.suspend(print),
+            None => print(),
+        }
+    }
+
     /// Takes the bar away for good, where something else is to be printed before the work is dropped.
     pub fn finish(&mut self) {
         self.0 = None;
@@ -263,6 +271,26 @@ mod tests {
         progress.advance();
         drop(progress);
         assert_eq!(screen.written(), shown);
+    }
+
+    /// What is printed aside stands between a bar that is taken away and one that is drawn anew.
+    #[test]
+    fn nothing_is_printed_into_the_bar() {
+        let screen = Screen::default();
+        let mut progress = screen.progress(Duration::ZERO, End::Parts(9));
+        progress.advance();
+        let before = screen.written();
+        assert!(!before.ends_with('!'), "{before}");
+        let answer = progress.aside(|| screen.add("a line\n").map(|()| 7));
+        assert_eq!(answer.unwrap(), 7);
+        let after = screen.written()[before.len()..].to_owned();
+        let (cleared, drawn) = after.split_once("a line\n").unwrap();
+        assert!(
+            cleared.ends_with('!') && drawn.contains("job 1 of 9"),
+            "{after}"
+        );
+        let hidden = Progress::on(ProgressDrawTarget::hidden(), PATIENCE, "job", End::Parts(9));
+        assert_eq!(hidden.aside(|| 8), 8);
     }
 
     #[test]

@@ -1,4 +1,4 @@
-//! The sentences of docs/REFERENCE.md that a service is held to, and a difference from one of them.
+//! The sentences of docs/REFERENCE.md that a service and the converter of texts are held to, and a difference from one of them.
 
 use std::fmt;
 
@@ -44,6 +44,7 @@ pub enum Rule {
     ChangedTurn,
     ChangedFields,
     ChangeStore,
+    BackToTheSame,
 }
 
 /// What is wrong in capitals, and the sentences that are broken, with their ids.
@@ -321,6 +322,14 @@ impl Rule {
                 "WRONG STORE",
                 &[("W5", "[The change-over] is lent no store")],
             ),
+            Rule::BackToTheSame => (
+                "NOT THE SAME BACK",
+                &[(
+                    "S4.4",
+                    "Every J text comes back as it was from the N text that it converts to, and every N text with s from \
+                     the J text that it goes back to",
+                )],
+            ),
         }
     }
 }
@@ -366,7 +375,7 @@ mod tests {
 
     const REFERENCE: &str = include_str!("../../docs/REFERENCE.md");
 
-    const ALL: [Rule; 39] = [
+    const ALL: [Rule; 40] = [
         Rule::Ends,
         Rule::Opening,
         Rule::SubmitAccepted,
@@ -406,6 +415,7 @@ mod tests {
         Rule::ChangedTurn,
         Rule::ChangedFields,
         Rule::ChangeStore,
+        Rule::BackToTheSame,
     ];
 
     fn in_one_line(text: &str) -> String {
@@ -441,7 +451,7 @@ mod tests {
             ALL.map(|rule| rule as usize).to_vec(),
             (0..ALL.len()).collect::<Vec<_>>()
         );
-        assert_eq!(Rule::ChangeStore as usize, ALL.len() - 1);
+        assert_eq!(Rule::BackToTheSame as usize, ALL.len() - 1);
         for (id, quotation) in ALL.iter().flat_map(|rule| rule.texts().1) {
             let sentence = sentence(id).unwrap_or_else(|| panic!("docs/REFERENCE.md has no {id}"));
             assert!(

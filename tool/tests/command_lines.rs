@@ -54,6 +54,12 @@ smooth --round 1 --steps 1 a b c|"c" is one word too many| smooth
 smooth --round 1 --steps 1 -- -a -b -c|"-c" is one word too many| smooth
 kernel --round 1 --steps 1 a|"a" is one word too many| kernel
 manual page|"page" is one word too many| manual
+convert|--to is missing| convert
+convert old new|--to is missing| convert
+convert --to|--to wants a value| convert
+convert --to k old new|--to: "k" is none of n, j| convert
+convert --to n --to j old new|--to is given twice| convert
+convert --to n old new more|"more" is one word too many| convert
 completions bash zsh|"zsh" is one word too many| completions
 smooth --rond=1 --steps 1|there is no option --rond; did you mean --round?| smooth
 smooth --round 1 --step 1|there is no option --step; did you mean --steps?| smooth
@@ -205,7 +211,7 @@ fn version_names_the_commit() {
     };
     for option in ["--version", "-V"] {
         let text = folder.run(option, b"").text();
-        assert_eq!(text, format!("vokhsaot 0.4.0 (commit {commit})\n"));
+        assert_eq!(text, format!("vokhsaot 0.5.0 (commit {commit})\n"));
     }
 }
 
@@ -304,6 +310,8 @@ fn completions_of_bash() {
             vec!["vokhsaot", "kernel", "--choice", ""],
             "binomial smallest",
         ),
+        (vec!["vokhsaot", "con"], "convert"),
+        (vec!["vokhsaot", "convert", "--to", ""], "n j"),
         // The names of operands are no words to type: bash goes on with files.
         (vec!["vokhsaot", "smooth", "["], ""),
         (vec!["vokhsaot", "smooth", "spot"], ""),

@@ -5,7 +5,8 @@ ghost use mathlib.Core.Path.{_≡_};
 ghost use Prim.Native.Nat.{_+_, _≤_};
 ghost use lib.ListN.{length, take};
 ghost use Rattle.io.specs.Counts.{Counts};
-ghost use Rattle.job_parser.specs.Job.{longestText};
+ghost use Rattle.job_parser.specs.declared.Format.the-variants.{N};
+ghost use Rattle.job_parser.specs.Formats.{longestOf};
 ghost use Rattle.job_text.specs.Answer.{answerText, mostBytes};
 use job_text::Printed;
 use libc::STDIN_FILENO;
@@ -15,7 +16,7 @@ use libc::STDOUT_FILENO;
 const TEXT_BYTES: usize = job_parser::LONGEST_TEXT + 1;
 
 fn text_buffer() -> [u8; TEXT_BYTES]
-    ensures { λ r. ⌜ longestText + 1 ≡ length r ⌝ }
+    ensures { λ r. ⌜ longestOf N + 1 ≡ length r ⌝ }
 {
     [0; TEXT_BYTES]
 }
@@ -29,7 +30,7 @@ fn answer_buffer() -> [u8; job_text::MOST_BYTES]
 // Puts the text on standard input at the start of the buffer and answers its length. Where a read fails it answers 0, for what
 // came before may not be the whole text, and an empty text is no job. No signal interrupts a read: the program handles none.
 fn read_text(text: &mut [u8]) -> usize
-    requires { ⌜ longestText + 1 ≡ length (now text) ⌝ }
+    requires { ⌜ longestOf N + 1 ≡ length (now text) ⌝ }
     ensures { λ r. ⌜ Counts r (now (text .exit)) ⌝ }
 {
     let mut done = 0;

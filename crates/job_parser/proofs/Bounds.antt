@@ -7,6 +7,9 @@ use native.Mathlib.Omega.{arith}
 use lib.ListN.{length, take, drop, length-append, length-drop, take-append-drop}
 use Rattle.job_printer.specs.Fields.{rowLines}
 use Rattle.job_parser.specs.Job.{Job, IsText}
+use Rattle.job_parser.specs.declared.Format.{Format}
+use Rattle.job_parser.specs.declared.Format.the-variants.{J, N}
+use Rattle.job_parser.specs.Formats.{longestOf}
 use Rattle.job_parser.specs.Pictures.{mostPixels}
 use Rattle.job_parser.proofs.Parsing.{header-long}
 use Rattle.job_parser.proofs.Filling.{line-long}
@@ -22,12 +25,17 @@ rows-long w (suc h) pixels e =
     let more = rows-long w h (drop w pixels) rest in
     rw length-append (omega (arith, line-long (take w pixels), split w pixels))
 
+-- no text of either format is longer than an N text
+pub at-longest : (format : Format) → longestOf format ≤ longestOf N
+at-longest J = omega arith
+at-longest N = omega arith
+
 -- EACH PIXEL TAKES AT LEAST A DIGIT AND A SEPARATOR, and line one 14 bytes
-pub pixels-fit : (text : List ℕ) (job : Job) → IsText text job → 2 * length (job .pixels) + 14 ≤ length text
-pixels-fit text job is =
+pub pixels-fit : (format : Format) (text : List ℕ) (job : Job) → IsText format text job → 2 * length (job .pixels) + 14 ≤ length text
+pixels-fit format text job is =
     let h = job .header in
-    rw (is .bytes, length-append) (omega (arith, header-long h, rows-long (h .width) (h .height) (job .pixels) (is .types .count)))
+    rw (is .bytes, length-append) (omega (arith, header-long format h, rows-long (h .width) (h .height) (job .pixels) (is .types .count)))
 
 -- so that two pictures of 8,191 pixels are enough for every job text
-pub picture-fits : (text : List ℕ) (job : Job) → IsText text job → length (job .pixels) ≤ mostPixels
-picture-fits text job is = omega (arith, pixels-fit text job is, is .short)
+pub picture-fits : (format : Format) (text : List ℕ) (job : Job) → IsText format text job → length (job .pixels) ≤ mostPixels
+picture-fits format text job is = omega (arith, pixels-fit format text job is, is .short, at-longest format)

@@ -9,11 +9,14 @@ use native.Mathlib.Omega.{arith}
 use borrow.Author.Tests.{ltb-true, ltb-false, eq-eqb, ne-eqb, eqb-true, eqb-false, le-leb, leb-true}
 use lib.Dec.{leb, ltb, eqb}
 use lib.IntN.{ℤ, pos, negsuc}
+use Rattle.kernel.specs.declared.Choice.{Choice}
+use Rattle.kernel.specs.declared.Choice.the-variants.{Binomial, Smallest}
 use Rattle.limits.proofs.Laws.{both-true}
 use Rattle.job_printer.specs.Numerals.{digit, numeral, integer, minusSign}
 use Rattle.job_printer.proofs.Numerals.{one-digit, last-digit, one-more, led}
 use Rattle.job_parser.specs.Job.{Signed, mostNegative, mostPositive}
-use Rattle.job_parser.specs.Reading.{Reading, found, nothing, Reader, _>>=_, pure, isDigit, readByte, readDigits, readNumber, minus, readNegative, readSigned}
+use Rattle.job_parser.specs.Formats.{choiceLetter}
+use Rattle.job_parser.specs.Reading.{Reading, found, nothing, Reader, _>>=_, pure, isDigit, readByte, readDigits, readNumber, minus, readNegative, readSigned, readLetter}
 
 -- a reader finds the text of each value that is allowed
 abbrev pub Reads : {A : Type 0} → Reader A → (A → List ℕ) → (A → Type 0) → Type 0
@@ -60,6 +63,32 @@ byte-exact b = record { reads = λ u rest t. rw (eq-eqb b b refl); only = only }
         go : (t : Bool) → eqb c b ≡ t → (c ∷ text ≡ b ∷ rest) × Unit {0}
         go true e = let g : found tt text ≡ found u rest = rw e at h in let s : c ≡ b = eqb-true c b e in (cc, tt)
         go false e = let g : nothing ≡ found u rest = rw e at h in absurd (never nothing u rest refl g)
+
+-- the letter of a choice
+pub letter-only : Only readLetter (λ c. choiceLetter c ∷ []) (λ c. Unit {0})
+unfolding readLetter
+letter-only [] c rest h = absurd (never nothing c rest refl h)
+letter-only (b ∷ text) c rest h = smallest (eqb b (choiceLetter Smallest)) refl
+  where
+    binomial : (t : Bool) → eqb b (choiceLetter Binomial) ≡ t → eqb b (choiceLetter Smallest) ≡ false → (b ∷ text ≡ choiceLetter c ∷ rest) × Unit {0}
+    binomial true e f =
+        let g : found Binomial text ≡ found c rest = rw (f, e) at h in
+        as-found (λ c rest. (b ∷ text ≡ choiceLetter c ∷ rest) × Unit {0}) g (rw (eqb-true b (choiceLetter Binomial) e), tt)
+    binomial false e f = let g : nothing ≡ found c rest = rw (f, e) at h in absurd (never nothing c rest refl g)
+
+    smallest : (t : Bool) → eqb b (choiceLetter Smallest) ≡ t → (b ∷ text ≡ choiceLetter c ∷ rest) × Unit {0}
+    smallest true e =
+        let g : found Smallest text ≡ found c rest = rw e at h in
+        as-found (λ c rest. (b ∷ text ≡ choiceLetter c ∷ rest) × Unit {0}) g (rw (eqb-true b (choiceLetter Smallest) e), tt)
+    smallest false e = binomial (eqb b (choiceLetter Binomial)) refl e
+
+letter-reads : Reads readLetter (λ c. choiceLetter c ∷ []) (λ c. Unit {0})
+unfolding readLetter
+letter-reads Smallest rest t = refl
+letter-reads Binomial rest t = refl
+
+pub letter-exact : Exact readLetter (λ c. choiceLetter c ∷ []) (λ c. Unit {0})
+letter-exact = record { reads = letter-reads; only = letter-only }
 
 -- what the next byte of a number leads to: its value, or one digit more
 data ReadOn (limit end v b n : ℕ) (text rest : List ℕ) : Type 0 where

@@ -4,6 +4,7 @@ use mathlib.Core.List.{List}
 use mathlib.Core.Option.{Option, some, none}
 use lib.ListN.{length}
 use lib.IntN.{ℤ}
+use Rattle.kernel.specs.declared.Choice.{Choice}
 use Rattle.job_parser.specs.Reading.{Reading, found, nothing}
 use Rattle.job_parser.specs.Job.{Job}
 use Rattle.job_parser.specs.declared.cursor.Cursor.{Cursor}
@@ -19,6 +20,8 @@ use Rattle.job_parser.specs.declared.EntriesField.the-variants as entrie
 use Rattle.job_parser.specs.declared.Sizes.{Sizes}
 use Rattle.job_parser.specs.declared.SizesField.{SizesField}
 use Rattle.job_parser.specs.declared.SizesField.the-variants as sizes
+use Rattle.job_parser.specs.declared.ChoiceField.{ChoiceField}
+use Rattle.job_parser.specs.declared.ChoiceField.the-variants as choice
 use Rattle.job_parser.specs.declared.Header.{Header}
 use Rattle.job_parser.specs.declared.HeaderField.{HeaderField}
 use Rattle.job_parser.specs.declared.HeaderField.the-variants as header
@@ -48,6 +51,10 @@ entriesOf text nothing = entries.NoField
 unfoldable pub sizesOf : List ℕ → Reading Sizes → SizesField
 sizesOf text (found s rest) = sizes.Value s (before text rest)
 sizesOf text nothing = sizes.NoField
+
+unfoldable pub choiceFieldOf : List ℕ → Reading Choice → ChoiceField
+choiceFieldOf text (found c rest) = choice.Value c (before text rest)
+choiceFieldOf text nothing = choice.NoField
 
 unfoldable pub headerOf : List ℕ → Reading Header → HeaderField
 headerOf text (found h rest) = header.Value h (before text rest)

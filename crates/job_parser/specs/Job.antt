@@ -7,30 +7,25 @@ use lib.IntN.{ℤ, pos, negsuc}
 use Rattle.limits.specs.Limits.{largestPixel}
 use Rattle.job_printer.specs.Numerals.{numeral, integer}
 use Rattle.job_printer.specs.Fields.{line, rowLines}
+use Rattle.job_parser.specs.declared.Format.{Format}
 use Rattle.job_parser.specs.declared.Header.{Header}
+use Rattle.job_parser.specs.Formats.{letterOf, longestOf, choiceFields, CanHave}
 
--- `Header` has the fields xx, xy, yy, steps, width, height
+-- `Header` has the fields xx, xy, yy, steps, width, height, choice
 pub record Job : Type 0 where
   pub header : Header
   pub pixels : List ℕ
 
--- the first byte of a job text: J
-abbrev pub jobLetter : ℕ
-jobLetter = 74
-
--- "Line one: J, xx, xy, yy, k, w, h; then h lines of w pixels; where w or h is 0 no pixel line follows"
-abbrev pub headerText : Header → List ℕ
-headerText header =
+-- "Line one: N, xx, xy, yy, k, w, h and s or b"; "Line one: J, xx, xy, yy, k, w, h"
+abbrev pub headerText : Format → Header → List ℕ
+headerText format header =
     line
-    ((jobLetter ∷ []) ∷ integer (header .xx) ∷ integer (header .xy) ∷ integer (header .yy)
-    ∷ numeral (header .steps) ∷ numeral (header .width) ∷ numeral (header .height) ∷ [])
+    ((letterOf format ∷ []) ∷ integer (header .xx) ∷ integer (header .xy) ∷ integer (header .yy)
+    ∷ numeral (header .steps) ∷ numeral (header .width) ∷ numeral (header .height) ∷ choiceFields format (header .choice))
 
-abbrev pub textOf : Job → List ℕ
-textOf job = headerText (job .header) ++ rowLines (job .header .width) (job .header .height) (job .pixels)
-
--- "It reads one job from standard input, at most 16,384 bytes; a longer text is no job"
-abbrev pub longestText : ℕ
-longestText = 16384
+-- "then h lines of w pixels; where w or h is 0 no pixel line follows"
+abbrev pub textOf : Format → Job → List ℕ
+textOf format job = headerText format (job .header) ++ rowLines (job .header .width) (job .header .height) (job .pixels)
 
 abbrev pub mostUnsigned : ℕ
 mostUnsigned = 4294967295
@@ -51,23 +46,25 @@ abbrev pub EachAtMost : ℕ → List ℕ → Type 0
 EachAtMost limit [] = Unit {0}
 EachAtMost limit (n ∷ ns) = (n ≤ limit) × EachAtMost limit ns
 
--- "Shape fields are signed 32-bit, k, w, h unsigned 32-bit"
-pub record HeaderInTypes (header : Header) : Type 0 where
+-- "Shape fields are signed 32-bit, k, w, h unsigned 32-bit", and a choice that the format can have
+pub record HeaderInTypes (format : Format) (header : Header) : Type 0 where
   pub xx : Signed (header .xx)
   pub xy : Signed (header .xy)
   pub yy : Signed (header .yy)
   pub steps : header .steps ≤ mostUnsigned
   pub width : header .width ≤ mostUnsigned
   pub height : header .height ≤ mostUnsigned
+  pub choice : CanHave format (header .choice)
 
 -- and its pixels fill its picture
-pub record InTypes (job : Job) : Type 0 where
-  pub header : HeaderInTypes (job .header)
+pub record InTypes (format : Format) (job : Job) : Type 0 where
+  pub header : HeaderInTypes format (job .header)
   pub pixels : EachAtMost largestPixel (job .pixels)
   pub count : length (job .pixels) ≡ job .header .width * job .header .height
 
--- a text is a job: refusal 1 is its failure
-pub record IsText (text : List ℕ) (job : Job) : Type 0 where
-  pub bytes : text ≡ textOf job
-  pub short : length text ≤ longestText
-  pub types : InTypes job
+-- a text is a job, written in a format: refusal 1 is its failure. "A text is a job exactly when it is the one spelling of that job", and
+-- "a longer text is no job"
+pub record IsText (format : Format) (text : List ℕ) (job : Job) : Type 0 where
+  pub bytes : text ≡ textOf format job
+  pub short : length text ≤ longestOf format
+  pub types : InTypes format job

@@ -6,14 +6,17 @@ use mathlib.Core.Option.{Option, some, none}
 use Prim.Native.Nat.{ℕ}
 use lib.ListN.{length}
 use lib.Dec.{leb}
-use Rattle.job_printer.specs.Fields.{tab, newline}
+use Rattle.kernel.specs.declared.Choice.{Choice}
+use Rattle.job_printer.specs.Fields.{tab}
 use Rattle.job_parser.specs.declared.Entries.{Entries}
 use Rattle.job_parser.specs.declared.Sizes.{Sizes}
 use Rattle.job_parser.specs.declared.Header.{Header}
-use Rattle.job_parser.specs.Job.{Job, jobLetter, longestText, mostUnsigned}
-use Rattle.job_parser.specs.Reading.{Reading, found, nothing, Reader, _>>=_, _>>_, pure, readByte, readNumber, readSigned, readRows}
+use Rattle.job_parser.specs.declared.Format.{Format}
+use Rattle.job_parser.specs.Formats.{letterOf, longestOf, heightEnd}
+use Rattle.job_parser.specs.Job.{Job, mostUnsigned}
+use Rattle.job_parser.specs.Reading.{Reading, found, nothing, Reader, _>>=_, _>>_, pure, readByte, readNumber, readSigned, readChoice, readRows}
 
--- "Line one: J, xx, xy, yy, k, w, h"
+-- "Line one: N, xx, xy, yy, k, w, h and s or b"; "Line one: J, xx, xy, yy, k, w, h"
 unfoldable pub readEntries : Reader Entries
 readEntries = do
   xx ← readSigned tab
@@ -21,28 +24,31 @@ readEntries = do
   yy ← readSigned tab
   pure (record { xx = xx; xy = xy; yy = yy })
 
-unfoldable pub readSizes : Reader Sizes
-readSizes = do
+-- the byte `end` stands after h
+unfoldable pub readSizes : ℕ → Reader Sizes
+readSizes end = do
   steps ← readNumber mostUnsigned tab
   width ← readNumber mostUnsigned tab
-  height ← readNumber mostUnsigned newline
+  height ← readNumber mostUnsigned end
   pure (record { steps = steps; width = width; height = height })
 
-abbrev pub headerFrom : Entries → Sizes → Header
-headerFrom e s = record { xx = e .xx; xy = e .xy; yy = e .yy; steps = s .steps; width = s .width; height = s .height }
+abbrev pub headerFrom : Entries → Sizes → Choice → Header
+headerFrom e s choice =
+    record { xx = e .xx; xy = e .xy; yy = e .yy; steps = s .steps; width = s .width; height = s .height; choice = choice }
 
-unfoldable pub readHeader : Reader Header
-readHeader = do
-  readByte jobLetter
+unfoldable pub readHeader : Format → Reader Header
+readHeader format = do
+  readByte (letterOf format)
   readByte tab
   entries ← readEntries
-  sizes ← readSizes
-  pure (headerFrom entries sizes)
+  sizes ← readSizes (heightEnd format)
+  choice ← readChoice format
+  pure (headerFrom entries sizes choice)
 
 -- "then h lines of w pixels"
-unfoldable pub readJob : Reader Job
-readJob = do
-  header ← readHeader
+unfoldable pub readJob : Format → Reader Job
+readJob format = do
+  header ← readHeader format
   pixels ← readRows (header .width) (header .height)
   pure (record { header = header; pixels = pixels })
 
@@ -52,5 +58,5 @@ whole (found a []) = some a
 whole (found a (b ∷ text)) = none
 whole nothing = none
 
-unfoldable pub parse : List ℕ → Option Job
-parse text = cond (leb (length text) longestText) (whole (readJob text)) none
+unfoldable pub parse : Format → List ℕ → Option Job
+parse format text = cond (leb (length text) (longestOf format)) (whole (readJob format text)) none

@@ -4,9 +4,14 @@ use mathlib.Core.Bool.{Bool, cond, _&&_}
 use mathlib.Core.List.{List, [], _∷_, _++_}
 use lib.Dec.{leb, eqb}
 use lib.IntN.{ℤ, pos, negsuc}
+use Rattle.kernel.specs.declared.Choice.{Choice}
+use Rattle.kernel.specs.declared.Choice.the-variants.{Binomial, Smallest}
 use Rattle.limits.specs.Limits.{largestPixel}
 use Rattle.job_printer.specs.Numerals.{minusSign, digit}
-use Rattle.job_printer.specs.Fields.{separator}
+use Rattle.job_printer.specs.Fields.{separator, newline}
+use Rattle.job_parser.specs.declared.Format.{Format}
+use Rattle.job_parser.specs.declared.Format.the-variants.{J, N}
+use Rattle.job_parser.specs.Formats.{choiceLetter}
 use Rattle.job_parser.specs.Job.{mostPositive, mostNegative}
 
 -- what stands at the front of a text: a value and the text after it, or nothing that can be read
@@ -69,6 +74,20 @@ unfoldable pub readSigned : ℕ → Reader ℤ
 readSigned end [] = nothing
 readSigned end (b ∷ text) =
     cond (eqb b minusSign) (readNegative end text) ((readNumber mostPositive end >>= (λ n. pure (pos n))) (b ∷ text))
+
+-- the letter of a choice
+unfoldable pub readLetter : Reader Choice
+readLetter [] = nothing
+readLetter (b ∷ text) =
+    cond (eqb b (choiceLetter Smallest)) (found Smallest text) (cond (eqb b (choiceLetter Binomial)) (found Binomial text) nothing)
+
+-- what follows h: a text that names no choice has the smallest
+unfoldable pub readChoice : Format → Reader Choice
+readChoice J = pure Smallest
+readChoice N = do
+  choice ← readLetter
+  readByte newline
+  pure choice
 
 -- n pixels to the end of their line
 unfoldable pub readRow : ℕ → Reader (List ℕ)

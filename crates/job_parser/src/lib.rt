@@ -5,12 +5,14 @@ ghost use mathlib.Core.Option.{some};
 ghost use Prim.Native.Nat.{_≤_};
 ghost use lib.ListN.{length, drop};
 ghost use Rattle.job_printer.specs.Buffers.{written};
+ghost use Rattle.job_parser.specs.Formats.{letterOf, longestOf, heightEnd};
 ghost use Rattle.job_parser.specs.Parsing.{readEntries, readSizes, readHeader, parse};
 ghost use Rattle.job_parser.specs.Job.{Job};
-ghost use Rattle.job_parser.specs.Reading.{readRow, readRows};
-ghost use Rattle.job_parser.specs.Found.{placeOf, entriesOf, sizesOf, headerOf, jobOf};
+ghost use Rattle.job_parser.specs.Reading.{readLetter, readChoice, readRow, readRows};
+ghost use Rattle.job_parser.specs.Found.{placeOf, entriesOf, sizesOf, choiceFieldOf, headerOf, jobOf};
 ghost use Rattle.job_parser.specs.Pictures.{mostPixels, Room, Stored};
 use job_printer::field_end;
+use kernel::Choice;
 
 mod cursor;
 
@@ -19,13 +21,21 @@ use cursor::Field;
 use cursor::Place;
 use cursor::SignedField;
 
-// REFERENCE: "at most 16,384 bytes".
-pub const LONGEST_TEXT: usize = 16384;
+// The longest N text and the longest J text (specs/Formats.antt `longestOf`).
+pub const LONGEST_TEXT: usize = 16386;
 
-// As many pixels as such a text can hold: each takes at least a digit and a separator, and line one comes first.
+const LONGEST_ARCHIVED_TEXT: usize = 16384;
+
+// As many pixels as such texts can hold: each takes at least a digit and a separator, and line one comes first.
 pub const MOST_PIXELS: usize = 8191;
 
 const LARGEST_PIXEL: u32 = 65535;
+
+// The formats of a job text: J, archived, and N, which names the choice.
+pub enum Format {
+    J,
+    N,
+}
 
 // Line one of a job text.
 pub struct Header {
@@ -35,6 +45,7 @@ pub struct Header {
     pub steps: u32,
     pub width: u32,
     pub height: u32,
+    pub choice: Choice,
 }
 
 enum HeaderField {
@@ -66,10 +77,43 @@ enum SizesField {
     NoField,
 }
 
+enum ChoiceField {
+    Value(Choice, Cursor),
+    NoField,
+}
+
 // What a text is: a job, whose pixels stand in a picture beside it, or none.
 pub enum JobText {
     Job(Header),
     NoJob,
+}
+
+pub fn letter(format: Format) -> u8
+    ensures { λ r. ⌜ r ≡ letterOf format ⌝ }
+{
+    match format {
+        Format::J => b'J',
+        Format::N => b'N',
+    }
+}
+
+fn longest(format: Format) -> usize
+    ensures { λ r. ⌜ r ≡ longestOf format ⌝ }
+{
+    match format {
+        Format::J => LONGEST_ARCHIVED_TEXT,
+        Format::N => LONGEST_TEXT,
+    }
+}
+
+// What stands after h.
+fn height_end(format: Format) -> u8
+    ensures { λ r. ⌜ r ≡ heightEnd format ⌝ }
+{
+    match format {
+        Format::J => b'\n',
+        Format::N => b'\t',
+    }
 }
 
 fn entries_at(text: &[u8], start: Cursor) -> EntriesField
@@ -87,8 +131,9 @@ fn entries_at(text: &[u8], start: Cursor) -> EntriesField
     EntriesField::Value(Entries { xx, xy, yy }, next)
 }
 
-fn sizes_at(text: &[u8], start: Cursor) -> SizesField
-    ensures { λ r. ⌜ r ≡ sizesOf (now (text .entry)) (readSizes (drop (start .at) (now (text .entry)))) ⌝ }
+// The byte `end` stands after the height.
+fn sizes_at(text: &[u8], start: Cursor, end: u8) -> SizesField
+    ensures { λ r. ⌜ r ≡ sizesOf (now (text .entry)) (readSizes end (drop (start .at) (now (text .entry)))) ⌝ }
 {
     let Field::Value(steps, next) = start.number(text, u32::MAX, b'\t') else {
         return SizesField::NoField;
@@ -96,7 +141,7 @@ fn sizes_at(text: &[u8], start: Cursor) -> SizesField
     let Field::Value(width, next) = next.number(text, u32::MAX, b'\t') else {
         return SizesField::NoField;
     };
-    let Field::Value(height, next) = next.number(text, u32::MAX, b'\n') else {
+    let Field::Value(height, next) = next.number(text, u32::MAX, end) else {
         return SizesField::NoField;
     };
     SizesField::Value(
@@ -109,11 +154,53 @@ fn sizes_at(text: &[u8], start: Cursor) -> SizesField
     )
 }
 
-fn read_header(text: &[u8]) -> HeaderField
-    ensures { λ r. ⌜ r ≡ headerOf (now (text .entry)) (readHeader (now (text .entry))) ⌝ }
+// s or b.
+fn letter_at(text: &[u8], start: Cursor) -> ChoiceField
+    ensures { λ r. ⌜ r ≡ choiceFieldOf (now (text .entry)) (readLetter (drop (start .at) (now (text .entry)))) ⌝ }
+{
+    let at = start.at;
+    if text.len() <= at {
+        return ChoiceField::NoField;
+    }
+    let after = Cursor { at: at + 1 };
+    let letter = text[at];
+    if letter == b's' {
+        return ChoiceField::Value(Choice::Smallest, after);
+    }
+    if letter == b'b' {
+        return ChoiceField::Value(Choice::Binomial, after);
+    }
+    ChoiceField::NoField
+}
+
+fn named_choice_at(text: &[u8], start: Cursor) -> ChoiceField
+    ensures { λ r. ⌜ r ≡ choiceFieldOf (now (text .entry)) (readChoice Format.N (drop (start .at) (now (text .entry)))) ⌝ }
+{
+    let ChoiceField::Value(choice, next) = letter_at(text, start) else {
+        return ChoiceField::NoField;
+    };
+    let Place::After(next) = next.byte(text, b'\n') else {
+        return ChoiceField::NoField;
+    };
+    ChoiceField::Value(choice, next)
+}
+
+// A J text names no choice: it has the smallest.
+fn choice_at(format: Format, text: &[u8], start: Cursor) -> ChoiceField
+    requires { ⌜ start .at ≤ length (now text) ⌝ }
+    ensures { λ r. ⌜ r ≡ choiceFieldOf (now (text .entry)) (readChoice format (drop (start .at) (now (text .entry)))) ⌝ }
+{
+    match format {
+        Format::J => ChoiceField::Value(Choice::Smallest, start),
+        Format::N => named_choice_at(text, start),
+    }
+}
+
+fn read_header(format: Format, text: &[u8]) -> HeaderField
+    ensures { λ r. ⌜ r ≡ headerOf (now (text .entry)) (readHeader format (now (text .entry))) ⌝ }
 {
     let start = Cursor { at: 0 };
-    let Place::After(next) = start.byte(text, b'J') else {
+    let Place::After(next) = start.byte(text, letter(format)) else {
         return HeaderField::NoField;
     };
     let Place::After(next) = next.byte(text, b'\t') else {
@@ -122,7 +209,10 @@ fn read_header(text: &[u8]) -> HeaderField
     let EntriesField::Value(entries, next) = entries_at(text, next) else {
         return HeaderField::NoField;
     };
-    let SizesField::Value(sizes, next) = sizes_at(text, next) else {
+    let SizesField::Value(sizes, next) = sizes_at(text, next, height_end(format)) else {
+        return HeaderField::NoField;
+    };
+    let ChoiceField::Value(choice, next) = choice_at(format, text, next) else {
         return HeaderField::NoField;
     };
     let header = Header {
@@ -132,6 +222,7 @@ fn read_header(text: &[u8]) -> HeaderField
         steps: sizes.steps,
         width: sizes.width,
         height: sizes.height,
+        choice,
     };
     HeaderField::Value(header, next)
 }
@@ -180,16 +271,23 @@ fn rows_at(text: &[u8], start: Cursor, width: u32, height: u32, pixels: &mut [u1
     Place::After(next)
 }
 
-// The job that a text is, its pixels put into the picture.
-pub fn read_job(text: &[u8], pixels: &mut [u16]) -> JobText
-    requires { ⌜ mostPixels ≤ length (now pixels) ⌝ }
-    ensures { λ r. ⌜ r ≡ jobOf (parse (now (text .entry))) ⌝ }
-    ensures { λ r. ⌜ ((job : Job) → parse (now (text .entry)) ≡ some job → now (pixels .exit) ≡ written (now (pixels .entry)) 0 (job .pixels)) ⌝ }
+// A picture with room for the pixels of every text.
+pub fn blank_picture() -> [u16; MOST_PIXELS]
+    ensures { λ r. ⌜ length r ≡ mostPixels ⌝ }
 {
-    if LONGEST_TEXT < text.len() {
+    [0; MOST_PIXELS]
+}
+
+// The job that a text of a format is, its pixels put into the picture.
+pub fn read_job(format: Format, text: &[u8], pixels: &mut [u16]) -> JobText
+    requires { ⌜ mostPixels ≤ length (now pixels) ⌝ }
+    ensures { λ r. ⌜ r ≡ jobOf (parse format (now (text .entry))) ⌝ }
+    ensures { λ r. ⌜ ((job : Job) → parse format (now (text .entry)) ≡ some job → now (pixels .exit) ≡ written (now (pixels .entry)) 0 (job .pixels)) ⌝ }
+{
+    if longest(format) < text.len() {
         return JobText::NoJob;
     }
-    let HeaderField::Value(header, next) = read_header(text) else {
+    let HeaderField::Value(header, next) = read_header(format, text) else {
         return JobText::NoJob;
     };
     let Place::After(end) = rows_at(text, next, header.width, header.height, pixels) else {

@@ -14,6 +14,7 @@ use Rattle.job_printer.specs.Buffers.{written, Wrote}
 use Rattle.job_printer.specs.Lines.{refusalText}
 use Rattle.job_parser.specs.Job.{Job}
 use Rattle.job_parser.specs.Parsing.{parse}
+use Rattle.job_parser.specs.declared.Format.the-variants.{N}
 use Rattle.job_parser.specs.Found.{jobOf}
 use Rattle.job_parser.specs.Pictures.{mostPixels}
 use Rattle.job_parser.specs.declared.Header.{Header}
@@ -34,26 +35,26 @@ pub record Left (text exit : List ℕ) (h : Header) : Type 0 where
   pub inside : h .width * h .height ≤ length exit
   pub fits : h .width * h .height ≤ mostPixels
 
-pub left : (text entry exit : List ℕ) (h : Header) → jobOf (parse text) ≡ job-text.Job h
-    → ((job : Job) → parse text ≡ some job → exit ≡ written entry 0 (job .pixels)) → Left text exit h
+pub left : (text entry exit : List ℕ) (h : Header) → jobOf (parse N text) ≡ job-text.Job h
+    → ((job : Job) → parse N text ≡ some job → exit ≡ written entry 0 (job .pixels)) → Left text exit h
 unfolding answerText jobOf
-left text entry exit h is stored = go (parse text) refl
+left text entry exit h is stored = go (parse N text) refl
   where
-    go : (o : Option Job) → parse text ≡ o → Left text exit h
+    go : (o : Option Job) → parse N text ≡ o → Left text exit h
     go (some job) e =
         let same : job .header ≡ h = let found : job-text.Job (job .header) ≡ job-text.Job h = rw e at is in cc in
-        let text-is = text-parsed text job e in
+        let text-is = text-parsed N text job e in
         let count : length (job .pixels) ≡ h .width * h .height = rw same at (text-is .types .count) in
         let front : take (h .width * h .height) exit ≡ job .pixels = rw (stored job e, written-start) (take-at (job .pixels) (drop (length (job .pixels)) entry) (h .width * h .height) count) in
-        record { answer = rw (e, front, same); inside = rw (stored job e, written-start, length-append) (omega arith); fits = omega (arith, picture-fits text job text-is) }
+        record { answer = rw (e, front, same); inside = rw (stored job e, written-start, length-append) (omega arith); fits = omega (arith, picture-fits N text job text-is) }
     go none e = let found : job-text.NoJob ≡ job-text.Job h = rw e at is in let z : _≡_ {A = ℕ} 0 1 = cc in absurd (omega arith)
 
 -- a text that is no job
-pub no-job-text : (text : List ℕ) → jobOf (parse text) ≡ job-text.NoJob → refusalText TextIsNoJob ≡ answerText text
+pub no-job-text : (text : List ℕ) → jobOf (parse N text) ≡ job-text.NoJob → refusalText TextIsNoJob ≡ answerText text
 unfolding answerText jobOf
-no-job-text text is = go (parse text) refl
+no-job-text text is = go (parse N text) refl
   where
-    go : (o : Option Job) → parse text ≡ o → refusalText TextIsNoJob ≡ answerText text
+    go : (o : Option Job) → parse N text ≡ o → refusalText TextIsNoJob ≡ answerText text
     go (some job) e = let found : job-text.Job (job .header) ≡ job-text.NoJob = rw e at is in let z : _≡_ {A = ℕ} 0 1 = cc in absurd (omega arith)
     go none e = rw e
 

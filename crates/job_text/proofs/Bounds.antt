@@ -10,14 +10,13 @@ use lib.ListN.{length, getD, take, drop, length-append, length-map}
 use Rattle.limits.specs.Limits.{largestPixel, longestSide, sideInRange}
 use Rattle.limits.specs.Errors.{numberOf, firstRefusal}
 use Rattle.limits.specs.declared.ErrorCode.{ErrorCode}
-use Rattle.limits.specs.declared.ErrorCode.the-variants.{TextIsNoJob, RecordOutOfOrder, VarianceOutOfRange, NotADirection, StepsOutOfRange, SideOutOfRange, NoSuchJob, StepsAreLeft, WrongLength, TooManyPixels, NoKernel, NoFreeBuffers, NumbersUsedUp}
+use Rattle.limits.specs.declared.ErrorCode.the-variants.{TextIsNoJob, RecordOutOfOrder, VarianceOutOfRange, NotADirection, StepsOutOfRange, SideOutOfRange, NoSuchJob, StepsAreLeft, WrongLength, TooManyPixels, NoKernel, NoFreeBuffers, NumbersUsedUp, CannotGoBack}
 use Rattle.limits.specs.declared.Outcome.{Outcome}
 use Rattle.limits.specs.declared.Outcome.the-variants.{Accepted, Refused}
 use Rattle.limits.proofs.Laws.{both-true, in-range}
 use Rattle.kernel.specs.Offsets.{Offset, offsets, sumOver, total}
 use Rattle.kernel.specs.Sound.{Sound}
 use Rattle.kernel.specs.declared.Kernel.{Kernel}
-use Rattle.kernel.specs.Choice.{defaultChoice}
 use Rattle.kernel.proofs.Theorems.{sound-by}
 use Rattle.limits.proofs.Checks.{all-hold}
 use Rattle.averaging.specs.Steps.{stepsOf}
@@ -30,6 +29,7 @@ use Rattle.job_printer.specs.Lines.{refusalText, kernelLetter, kernelText, pict
 use Rattle.job_printer.proofs.Numerals.{short}
 use Rattle.job_parser.specs.Job.{Job, EachAtMost, InTypes}
 use Rattle.job_parser.specs.Parsing.{parse}
+use Rattle.job_parser.specs.declared.Format.the-variants.{N}
 use Rattle.job_parser.specs.Pictures.{mostPixels}
 use Rattle.job_parser.proofs.Parsing.{text-parsed}
 use Rattle.job_parser.proofs.Rows.{small-front, small-back}
@@ -77,6 +77,7 @@ two-digits TooManyPixels = lit< tt
 two-digits NoKernel = lit< tt
 two-digits NoFreeBuffers = lit< tt
 two-digits NumbersUsedUp = lit< tt
+two-digits CannotGoBack = lit< tt
 
 pub refusal-most : (code : ErrorCode) → length (refusalText code) ≤ mostBytes
 unfolding line
@@ -123,14 +124,14 @@ picture-most w h pixels wide high count small =
     simp length-append (omega (arith, short 3 w (lt-of-le-of-lt wide (lit< tt)), short 3 h (lt-of-le-of-lt high (lit< tt)), rows-most w h pixels small))
 
 -- the job's own checks
-module _ (job : Job) (types : InTypes job) (count : length (job .pixels) ≤ mostPixels) where
+module _ (job : Job) (types : InTypes N job) (count : length (job .pixels) ≤ mostPixels) where
   result-most : firstRefusal (jobChecks (job .header)) ≡ Accepted → length (resultText (job .header) (job .pixels)) ≤ mostBytes
   result-most e =
       let h = job .header in
       let kernel = jobKernel h in
       let holds = all-hold (jobChecks h) e in
       let sides = both-true (sideInRange (h .width)) (sideInRange (h .height)) (holds .1 .0) in
-      let good = sound-by defaultChoice (h .xx) (h .xy) (h .yy) (h .steps) (holds .0) (holds .1 .1 .0) in
+      let good = sound-by (h .choice) (h .xx) (h .xy) (h .yy) (h .steps) (holds .0) (holds .1 .1 .0) in
       let after = stepsOf kernel (h .width) (h .height) (h .steps) (job .pixels) in
       let long : length after ≡ h .width * h .height = length-steps kernel (h .width) (h .height) (job .pixels) (types .count) (h .steps) in
       let small = each-most largestPixel after (λ i l. stays-pixel kernel (h .steps) good (h .width) (h .height) (job .pixels) (types .count) (at-most largestPixel (job .pixels) (types .pixels)) (h .steps) i (rw long at l)) in
@@ -148,8 +149,8 @@ module _ (job : Job) (types : InTypes job) (count : length (job .pixels) ≤ mos
 -- NO ANSWER IS LONGER
 pub answer-short : (text : List ℕ) → length (answerText text) ≤ mostBytes
 unfolding answerText
-answer-short text = go (parse text) refl
+answer-short text = go (parse N text) refl
   where
-    go : (o : Option Job) → parse text ≡ o → length (answerTo o) ≤ mostBytes
-    go (some job) e = let is = text-parsed text job e in answer-most job (is .types) (picture-fits text job is)
+    go : (o : Option Job) → parse N text ≡ o → length (answerTo o) ≤ mostBytes
+    go (some job) e = let is = text-parsed N text job e in answer-most job (is .types) (picture-fits N text job is)
     go none e = refusal-most TextIsNoJob

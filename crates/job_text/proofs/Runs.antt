@@ -7,7 +7,6 @@ use lib.ListN.{length}
 use Rattle.limits.specs.Errors.{firstRefusal}
 use Rattle.limits.specs.declared.Outcome.the-variants.{Accepted, Refused}
 use Rattle.limits.specs.declared.ErrorCode.{ErrorCode}
-use Rattle.kernel.specs.Choice.{defaultChoice}
 use Rattle.covariance.specs.declared.Shape.{Shape}
 use Rattle.covariance.specs.declared.Shape.the-variants.{Matrix}
 use Rattle.covariance.specs.Shapes.{variancesFine, directionFine, covarianceXX, covarianceXY, covarianceYY}
@@ -29,14 +28,14 @@ module _ (h : Header) (first second : List ℕ) (fits : length first ≡ h .widt
   unfolding variancesFine directionFine covarianceXX covarianceXY covarianceYY
   same-checks = rw (eq-eqb (length first) (h .width * h .height) fits, eq-eqb (length second) (h .width * h .height) fits-too)
 
-  pub run-answers : runOf defaultChoice (shapeOf h) (h .steps) (h .width) (h .height) first second .outcome ≡ firstRefusal (jobChecks h)
-  run-answers = answers defaultChoice (shapeOf h) (h .steps) (h .width) (h .height) first second ∙ same-checks
+  pub run-answers : runOf (h .choice) (shapeOf h) (h .steps) (h .width) (h .height) first second .outcome ≡ firstRefusal (jobChecks h)
+  run-answers = answers (h .choice) (shapeOf h) (h .steps) (h .width) (h .height) first second ∙ same-checks
 
   -- what is shown of the two pictures that the run left
   pub shown-after : {p q pixels : List ℕ} → pixels ≡ shownOf (shapeOf h) (h .steps) (h .width) (h .height) p q
-      → p ≡ runOf defaultChoice (shapeOf h) (h .steps) (h .width) (h .height) first second .first
-      → q ≡ runOf defaultChoice (shapeOf h) (h .steps) (h .width) (h .height) first second .second
-      → pixels ≡ shownAfter defaultChoice (shapeOf h) (h .steps) (h .width) (h .height) first second
+      → p ≡ runOf (h .choice) (shapeOf h) (h .steps) (h .width) (h .height) first second .first
+      → q ≡ runOf (h .choice) (shapeOf h) (h .steps) (h .width) (h .height) first second .second
+      → pixels ≡ shownAfter (h .choice) (shapeOf h) (h .steps) (h .width) (h .height) first second
   shown-after e f g = e ∙ rw (f, g)
 
   pub refused-text : (code : ErrorCode) → firstRefusal (jobChecks h) ≡ Refused code → refusalText code ≡ jobAnswer h first
@@ -44,13 +43,13 @@ module _ (h : Header) (first second : List ℕ) (fits : length first ≡ h .widt
   refused-text code e = rw e
 
   module _ (accepted : firstRefusal (jobChecks h) ≡ Accepted) where
-    shown-is : shownAfter defaultChoice (shapeOf h) (h .steps) (h .width) (h .height) first second ≡ stepsOf (jobKernel h) (h .width) (h .height) (h .steps) first
+    shown-is : shownAfter (h .choice) (shapeOf h) (h .steps) (h .width) (h .height) first second ≡ stepsOf (jobKernel h) (h .width) (h .height) (h .steps) first
     unfolding covarianceXX covarianceXY covarianceYY
-    shown-is = shows-last defaultChoice (shapeOf h) (h .steps) (h .width) (h .height) first second (same-checks ∙ accepted)
+    shown-is = shows-last (h .choice) (shapeOf h) (h .steps) (h .width) (h .height) first second (same-checks ∙ accepted)
 
-    pub shown-fits : length (shownAfter defaultChoice (shapeOf h) (h .steps) (h .width) (h .height) first second) ≡ h .width * h .height
+    pub shown-fits : length (shownAfter (h .choice) (shapeOf h) (h .steps) (h .width) (h .height) first second) ≡ h .width * h .height
     shown-fits = ap length shown-is ∙ length-steps (jobKernel h) (h .width) (h .height) first fits (h .steps)
 
-    pub shown-text : shownText h (shownAfter defaultChoice (shapeOf h) (h .steps) (h .width) (h .height) first second) ≡ jobAnswer h first
+    pub shown-text : shownText h (shownAfter (h .choice) (shapeOf h) (h .steps) (h .width) (h .height) first second) ≡ jobAnswer h first
     unfolding jobAnswer
     shown-text = rw (shown-is, accepted)

@@ -19,7 +19,9 @@ use Rattle.job_printer.specs.Fields.{line}
 use Rattle.job_printer.specs.Lines.{refusalText}
 use Rattle.job_parser.specs.Job.{Job, IsText}
 use Rattle.job_parser.specs.Parsing.{parse}
+use Rattle.job_parser.specs.declared.Format.the-variants.{J, N}
 use Rattle.job_parser.proofs.Parsing.{parse-text, text-parsed}
+use Rattle.job_parser.proofs.Theorems.{one-format}
 use Rattle.job_text.specs.Answer.{refusalOr, resultText, jobAnswer, answerText, mostBytes}
 use Rattle.job_text.proofs.Bounds.{answer-short}
 
@@ -38,20 +40,24 @@ unfolding line
 begins-with-K job = refl
 
 -- REFUSAL 1 IS PRINTED EXACTLY WHERE THE TEXT IS NO JOB'S
-pub refused-exactly : (text : List ℕ) → (answerText text ≡ refusalText TextIsNoJob) ↔ ((job : Job) → IsText text job → ⊥)
+pub refused-exactly : (text : List ℕ) → (answerText text ≡ refusalText TextIsNoJob) ↔ ((job : Job) → IsText N text job → ⊥)
 unfolding answerText jobAnswer
-refused-exactly text = (only, λ none-is. always none-is (parse text) refl)
+refused-exactly text = (only, λ none-is. always none-is (parse N text) refl)
   where
-    only : answerText text ≡ refusalText TextIsNoJob → (job : Job) → IsText text job → ⊥
+    only : answerText text ≡ refusalText TextIsNoJob → (job : Job) → IsText N text job → ⊥
     only e job is =
         let h = job .header in
-        let printed : jobAnswer h (job .pixels) ≡ refusalText TextIsNoJob = rw (parse-text text job is) at e in
+        let printed : jobAnswer h (job .pixels) ≡ refusalText TextIsNoJob = rw (parse-text N text job is) at e in
         other-answer (stepsInRange (h .steps)) (sidesInRange (h .width) (h .height)) (kernelExists (h .xx) (h .xy) (h .yy) (unitsOf (h .steps)))
         (resultText h (job .pixels)) printed (begins-with-K job)
 
-    always : ((job : Job) → IsText text job → ⊥) → (o : Option Job) → parse text ≡ o → answerText text ≡ refusalText TextIsNoJob
-    always none-is (some job) e = absurd (none-is job (text-parsed text job e))
+    always : ((job : Job) → IsText N text job → ⊥) → (o : Option Job) → parse N text ≡ o → answerText text ≡ refusalText TextIsNoJob
+    always none-is (some job) e = absurd (none-is job (text-parsed N text job e))
     always none-is none e = rw e
+
+-- A J TEXT GETS 1: "The bench program takes N only and gives 1 for a J"
+pub archived-refused : (text : List ℕ) (job : Job) → IsText J text job → answerText text ≡ refusalText TextIsNoJob
+archived-refused text job is = refused-exactly text .1 (λ other k. one-format text job other is k)
 
 -- NO ANSWER HAS MORE THAN 49,240 BYTES
 pub few-bytes : (text : List ℕ) → length (answerText text) ≤ mostBytes

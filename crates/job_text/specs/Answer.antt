@@ -11,7 +11,7 @@ use Rattle.limits.specs.declared.ErrorCode.the-variants.{TextIsNoJob, StepsOutO
 use Rattle.limits.specs.declared.Outcome.{Outcome}
 use Rattle.limits.specs.declared.Outcome.the-variants.{Accepted, Refused}
 use Rattle.kernel.specs.Molecule.{unitsOf}
-use Rattle.kernel.specs.Choice.{defaultChoice, kernelBy}
+use Rattle.kernel.specs.Choice.{kernelBy}
 use Rattle.kernel.specs.Existence.{kernelExists}
 use Rattle.kernel.specs.declared.Kernel.{Kernel}
 use Rattle.averaging.specs.Steps.{stepsOf}
@@ -19,6 +19,7 @@ use Rattle.job_printer.specs.Lines.{refusalText, kernelText, pictureText}
 use Rattle.job_parser.specs.Job.{Job}
 use Rattle.job_parser.specs.Parsing.{parse}
 use Rattle.job_parser.specs.declared.Header.{Header}
+use Rattle.job_parser.specs.declared.Format.the-variants.{N}
 use Rattle.job_text.specs.declared.Printed.{Printed}
 use Rattle.job_text.specs.declared.Printed.the-variants as printed
 
@@ -39,9 +40,9 @@ jobChecks h =
     ∷ (kernelExists (h .xx) (h .xy) (h .yy) (unitsOf (h .steps)) otherwise NoKernel)
     ∷ []
 
--- REFERENCE, "The choice of f": "a caller of a direct run who names none, and the bench program, get the new one"
+-- "The choice is obeyed: the K line and the pixels are those of the kernel with the f of the text's choice"
 abbrev pub jobKernel : Header → Kernel
-jobKernel h = kernelBy defaultChoice (h .xx) (h .xy) (h .yy) (h .steps)
+jobKernel h = kernelBy (h .choice) (h .xx) (h .xy) (h .yy) (h .steps)
 
 -- the kernel of a job, and a picture
 abbrev pub shownText : Header → List ℕ → List ℕ
@@ -63,9 +64,9 @@ abbrev pub answerTo : Option Job → List ℕ
 answerTo (some job) = jobAnswer (job .header) (job .pixels)
 answerTo none = refusalText TextIsNoJob
 
--- what is printed for a text
+-- what is printed for a text: "The bench program takes N only"
 unfoldable pub answerText : List ℕ → List ℕ
-answerText text = answerTo (parse text)
+answerText text = answerTo (parse N text)
 
 -- as many bytes as an answer can have, which `proofs/Bounds` shows: for each pixel five digits and a separator, and before them
 -- 94 bytes

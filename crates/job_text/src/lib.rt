@@ -8,10 +8,9 @@ ghost use Rattle.job_printer.specs.Buffers.{Wrote};
 ghost use Rattle.job_parser.specs.Pictures.{mostPixels};
 ghost use Rattle.job_text.specs.Answer.{jobChecks, shownText, jobAnswer, answerText, mostBytes, answered};
 use covariance::Shape;
+use job_parser::Format;
 use job_parser::Header;
 use job_parser::JobText;
-use job_parser::MOST_PIXELS;
-use kernel::Choice;
 use limits::ErrorCode;
 use limits::Outcome;
 
@@ -24,12 +23,6 @@ pub enum Printed {
     Refused(ErrorCode),
 }
 
-fn blank_picture() -> [u16; MOST_PIXELS]
-    ensures { λ r. ⌜ length r ≡ mostPixels ⌝ }
-{
-    [0; MOST_PIXELS]
-}
-
 // The kernel of a job that no check refuses, and the picture after its steps.
 fn put_result(out: &mut [u8], header: Header, pixels: &[u16]) -> usize
     requires { ⌜ firstRefusal (jobChecks header) ≡ Outcome.Accepted ⌝ }
@@ -37,13 +30,8 @@ fn put_result(out: &mut [u8], header: Header, pixels: &[u16]) -> usize
     requires { ⌜ length (shownText header (now pixels)) ≤ length (now out) ⌝ }
     ensures { λ r. ⌜ Wrote (now (out .entry)) 0 (shownText header (now (pixels .entry))) (now (out .exit)) r ⌝ }
 {
-    let answer = kernel::kernel_by(
-        Choice::Binomial,
-        header.xx,
-        header.xy,
-        header.yy,
-        header.steps,
-    );
+    let choice = header.choice;
+    let answer = kernel::kernel_by(choice, header.xx, header.xy, header.yy, header.steps);
     let kernel = answer.kernel;
     let next = job_printer::put_kernel(out, 0, kernel);
     job_printer::put_picture(out, next, pixels, header.width, header.height)
@@ -56,11 +44,12 @@ fn run_job(out: &mut [u8], header: Header, first: &mut [u16], second: &mut [u16]
     requires { ⌜ length (jobAnswer header (now first)) ≤ length (now out) ⌝ }
     ensures { λ r. ⌜ Wrote (now (out .entry)) 0 (jobAnswer header (now (first .entry))) (now (out .exit)) r ⌝ }
 {
+    let choice = header.choice;
     let shape = Shape::Matrix(header.xx, header.xy, header.yy);
     let steps = header.steps;
     let width = header.width;
     let height = header.height;
-    match smoothing::run(shape, steps, width, height, first, second) {
+    match smoothing::run_by(choice, shape, steps, width, height, first, second) {
         Outcome::Accepted => {
             let pixels = smoothing::shown(shape, steps, width, height, first, second);
             put_result(out, header, pixels)
@@ -76,7 +65,7 @@ fn answer_between(text: &[u8], out: &mut [u8], first: &mut [u16], second: &mut [
     requires { ⌜ mostPixels ≤ length (now second) ⌝ }
     ensures { λ r. ⌜ Wrote (now (out .entry)) 0 (answerText (now (text .entry))) (now (out .exit)) r ⌝ }
 {
-    match job_parser::read_job(text, first) {
+    match job_parser::read_job(Format::N, text, first) {
         JobText::Job(header) => {
             let size = limits::area(header.width, header.height);
             run_job(out, header, &mut first[..size], &mut second[..size])
@@ -93,7 +82,7 @@ pub fn answer(text: &[u8], out: &mut [u8]) -> Printed
     if out.len() < MOST_BYTES {
         return Printed::Refused(ErrorCode::WrongLength);
     }
-    let mut first = blank_picture();
-    let mut second = blank_picture();
+    let mut first = job_parser::blank_picture();
+    let mut second = job_parser::blank_picture();
     Printed::Bytes(answer_between(text, out, &mut first, &mut second))
 }

@@ -33,7 +33,7 @@ kernelBy choice xx xy yy k = kernelWith xx xy yy (freeNumberBy choice xx xy yy (
 abbrev pub freeBy : Choice → ℤ → ℤ → ℤ → ℕ → ℕ
 freeBy choice xx xy yy k = natAbs (freeNumberBy choice xx xy yy (unitsOf k))
 
--- "a caller of a direct run who names none, and the bench program, get the new one"
+-- "a caller of a direct run who names none gets the new one"
 abbrev pub defaultChoice : Choice
 defaultChoice = Binomial
 

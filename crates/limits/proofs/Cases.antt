@@ -7,14 +7,14 @@ use Prim.Native.Nat.{ℕ}
 use Rattle.limits.specs.Limits.{unitsPerSquarePixel, largestPixel, mostSteps, longestSide, bufferPixels, withinOf, stepsInRange, sidesInRange, fillsPicture, fitsBuffer}
 use Rattle.limits.specs.Errors.{numberOf, outcomeNumber, Check, _otherwise_, firstRefusal, valueOr, heldAfter}
 use Rattle.limits.specs.declared.ErrorCode.{ErrorCode}
-use Rattle.limits.specs.declared.ErrorCode.the-variants.{TextIsNoJob, RecordOutOfOrder, VarianceOutOfRange, NotADirection, StepsOutOfRange, SideOutOfRange, NoSuchJob, StepsAreLeft, WrongLength, TooManyPixels, NoKernel, NoFreeBuffers, NumbersUsedUp}
+use Rattle.limits.specs.declared.ErrorCode.the-variants.{TextIsNoJob, RecordOutOfOrder, VarianceOutOfRange, NotADirection, StepsOutOfRange, SideOutOfRange, NoSuchJob, StepsAreLeft, WrongLength, TooManyPixels, NoKernel, NoFreeBuffers, NumbersUsedUp, CannotGoBack}
 use Rattle.limits.specs.declared.Outcome.{Outcome}
 use Rattle.limits.specs.declared.Outcome.the-variants.{Accepted, Refused}
 
--- ---- "Refusals in checking order", 1 to 13: each by itself, and as the answer of a call
+-- ---- "Refusals in checking order", 1 to 14: each by itself, and as the answer of a call
 abbrev pub refusals : List (ErrorCode × ℕ)
 refusals =
-    -- "The bench text is not a job."
+    -- "The text is not a job"
     (TextIsNoJob, 1)
     -- "The service record is not in order, or the store's length is not 16,384."
     ∷ (RecordOutOfOrder, 2)
@@ -40,6 +40,8 @@ refusals =
     ∷ (NoFreeBuffers, 12)
     -- "The last number given is 2^64 − 1."
     ∷ (NumbersUsedUp, 13)
+    -- "An N text with b cannot go back to J"
+    ∷ (CannotGoBack, 14)
     ∷ []
 
 pub numbered : map (λ row. numberOf (row .0)) refusals ≡ map (λ row. row .1) refusals

@@ -13,7 +13,7 @@ pub const LONGEST_SIDE: u32 = 1024;
 
 pub const BUFFER_PIXELS: usize = 1024;
 
-// REFERENCE's thirteen refusals, in its order; `numberOf` gives each its number.
+// REFERENCE's fourteen refusals, by their numbers; `numberOf` gives each its number.
 pub enum ErrorCode {
     TextIsNoJob,
     RecordOutOfOrder,
@@ -28,6 +28,7 @@ pub enum ErrorCode {
     NoKernel,
     NoFreeBuffers,
     NumbersUsedUp,
+    CannotGoBack,
 }
 
 // What a call answers where nothing else comes back: REFERENCE's "an answer or one numbered refusal".
@@ -53,6 +54,7 @@ pub fn error_number(code: ErrorCode) -> u32
         ErrorCode::NoKernel => 11,
         ErrorCode::NoFreeBuffers => 12,
         ErrorCode::NumbersUsedUp => 13,
+        ErrorCode::CannotGoBack => 14,
     }
 }
 

@@ -13,7 +13,7 @@ use Rattle.limits.specs.Errors.{numberOf, Check, _otherwise_, firstRefusal}
 use Rattle.limits.specs.declared.Outcome.{Outcome}
 use Rattle.limits.specs.declared.Outcome.the-variants as O
 use Rattle.limits.specs.declared.ErrorCode.{ErrorCode}
-use Rattle.limits.specs.declared.ErrorCode.the-variants.{TextIsNoJob, RecordOutOfOrder, VarianceOutOfRange, NotADirection, StepsOutOfRange, SideOutOfRange, NoSuchJob, StepsAreLeft, WrongLength, TooManyPixels, NoKernel, NoFreeBuffers, NumbersUsedUp}
+use Rattle.limits.specs.declared.ErrorCode.the-variants.{TextIsNoJob, RecordOutOfOrder, VarianceOutOfRange, NotADirection, StepsOutOfRange, SideOutOfRange, NoSuchJob, StepsAreLeft, WrongLength, TooManyPixels, NoKernel, NoFreeBuffers, NumbersUsedUp, CannotGoBack}
 use Rattle.machine.specs.declared.Answer.{Answer}
 use Rattle.machine.specs.declared.Answer.the-variants.{Job, Idle, Refused}
 use Rattle.machine.specs.Answers.{answerNumber}
@@ -27,7 +27,7 @@ use Rattle.machine.proofs.Ends.{withdraws, collects}
 use Rattle.word_calls.specs.Exported.{numberAfter}
 use Rattle.word_calls.specs.Lists.{errorNumbered, answerSeen}
 
--- the code of each of the thirteen refusals tells it
+-- the code of each of the fourteen refusals tells it
 pub refusal-told : (code : ErrorCode) (number : ℕ) → answerSeen (numberOf code) number ≡ Refused code
 unfolding errorNumbered answerSeen
 refusal-told TextIsNoJob number = refl
@@ -43,6 +43,7 @@ refusal-told TooManyPixels number = refl
 refusal-told NoKernel number = refl
 refusal-told NoFreeBuffers number = refl
 refusal-told NumbersUsedUp number = refl
+refusal-told CannotGoBack number = refl
 
 pub answer-told : (a : Answer) (number : ℕ) → (a ≡ Job 0 → ⊥) → answerSeen (answerNumber a) (numberAfter a number) ≡ a
 unfolding answerSeen

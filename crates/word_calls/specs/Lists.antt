@@ -10,7 +10,7 @@ use lib.ListN.{length}
 use Rattle.limits.specs.Errors.{valueOr, outcomeNumber, _otherwise_, firstRefusal}
 use Rattle.limits.specs.declared.Outcome.{Outcome}
 use Rattle.limits.specs.declared.ErrorCode.{ErrorCode}
-use Rattle.limits.specs.declared.ErrorCode.the-variants.{TextIsNoJob, RecordOutOfOrder, VarianceOutOfRange, NotADirection, StepsOutOfRange, SideOutOfRange, NoSuchJob, StepsAreLeft, WrongLength, TooManyPixels, NoKernel, NoFreeBuffers, NumbersUsedUp}
+use Rattle.limits.specs.declared.ErrorCode.the-variants.{TextIsNoJob, RecordOutOfOrder, VarianceOutOfRange, NotADirection, StepsOutOfRange, SideOutOfRange, NoSuchJob, StepsAreLeft, WrongLength, TooManyPixels, NoKernel, NoFreeBuffers, NumbersUsedUp, CannotGoBack}
 use Rattle.machine.specs.declared.Answer.{Answer}
 use Rattle.machine.specs.declared.Answer.the-variants.{Job, Idle, Refused}
 use Rattle.machine.specs.Answers.{answerNumber, countNumber, countValues}
@@ -56,7 +56,8 @@ errorNumbered code =
     (cond (eqb code 9) WrongLength
     (cond (eqb code 10) TooManyPixels
     (cond (eqb code 11) NoKernel
-    (cond (eqb code 12) NoFreeBuffers NumbersUsedUp)))))))))))
+    (cond (eqb code 12) NoFreeBuffers
+    (cond (eqb code 13) NumbersUsedUp CannotGoBack))))))))))))
 
 -- the answer that a returned code and the number after the call tell: code 0 is a job with that number, or idle where it is 0
 unfoldable pub answerSeen : ℕ → ℕ → Answer

@@ -12,11 +12,11 @@ use Rattle.job_printer.specs.Numerals.{numeralWithin, numeral}
 use Rattle.job_printer.specs.Fields.{line, rowLines}
 use Rattle.job_printer.specs.Divisors.{divisorWithin, commonDivisor}
 use Rattle.job_printer.specs.Text.{bytes}
-use Rattle.job_parser.specs.Reading.{readByte, readDigits, readNumber, readNegative, readSigned, readRow, readRows}
+use Rattle.job_parser.specs.Reading.{readByte, readDigits, readNumber, readNegative, readSigned, readLetter, readChoice, readRow, readRows}
 use Rattle.job_parser.specs.Parsing.{readEntries, readSizes, readHeader, readJob, parse}
 use Rattle.job_text.specs.Answer.{jobAnswer, answerText}
 use Rattle.worked_cases.specs.Table.{table, computed}
 
 pub worked : map computed table ≡ table
-unfolding computed kernelWith kernelExists iterate stepOf weightedAt rows entries pixelAt variancesFine directionFine covarianceXX covarianceXY covarianceYY runOf shownOf numeralWithin numeral line rowLines divisorWithin commonDivisor bytes readByte readDigits readNumber readNegative readSigned readRow readRows readEntries readSizes readHeader readJob parse jobAnswer answerText
+unfolding computed kernelWith kernelExists iterate stepOf weightedAt rows entries pixelAt variancesFine directionFine covarianceXX covarianceXY covarianceYY runOf shownOf numeralWithin numeral line rowLines divisorWithin commonDivisor bytes readByte readDigits readNumber readNegative readSigned readLetter readChoice readRow readRows readEntries readSizes readHeader readJob parse jobAnswer answerText
 worked = refl

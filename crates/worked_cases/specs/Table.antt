@@ -23,8 +23,8 @@ use Rattle.job_text.specs.Answer.{answerText}
 
 -- What goes in: a choice, a covariance, a step count and a picture. What comes out: the refusal's number (0: accepted), the free
 -- number, the nine weights and their sum, and what a run leaves in its two pictures and shows of them. A refused case has no free
--- number, no weights and no sum: they stand as 0. Last, the same as the text of a job, and what the bench program prints for it: a
--- text names no choice, so a case of the smallest one has none.
+-- number, no weights and no sum: they stand as 0. Last, the same as the text of a job, whose last field of line one names the choice, and
+-- what the bench program prints for it.
 pub record Case : Type 0 where
   pub choice : Choice
   pub xx : ℤ
@@ -125,49 +125,52 @@ refused choice xx xy yy k answer printed =
 -- by 1, in f and k by 16, in i by 524288, in j by 8192, and in the last by 2.
 abbrev pub table : List Case
 table =
-    -- a. "Case a then has pixels 100 in the corners, 200 at the sides, 400 in the centre, and its kernel line reads 16, then
+    -- a. "Case a's input has N at the front and b at the end of line one". "Case a then has pixels 100 in the corners, 200 at the sides, 400 in the centre, and its kernel line reads 16, then
     -- 1 2 1 2 4 2 1 2 1": half of 2048 + 2048 + 2048 − 4096 is 1024
     smooths Binomial (pos 2048) (pos 0) (pos 2048) 1024 16384 (1024 ∷ 2048 ∷ 1024 ∷ 2048 ∷ 4096 ∷ 2048 ∷ 1024 ∷ 2048 ∷ 1024 ∷ []) 3 3
     (0 ∷ 0 ∷ 0 ∷ 0 ∷ 1600 ∷ 0 ∷ 0 ∷ 0 ∷ 0 ∷ []) (100 ∷ 200 ∷ 100 ∷ 200 ∷ 400 ∷ 200 ∷ 100 ∷ 200 ∷ 100 ∷ [])
-    (prints "J\t2048\t0\t2048\t1\t3\t3\n0\t0\t0\n0\t1600\t0\n0\t0\t0\n"
+    (prints "N\t2048\t0\t2048\t1\t3\t3\tb\n0\t0\t0\n0\t1600\t0\n0\t0\t0\n"
     "K\t16\t1\t2\t1\t2\t4\t2\t1\t2\t1\nP\t3\t3\n100\t200\t100\n200\t400\t200\n100\t200\t100\n")
     -- by the smallest free number: case a as T1 has it
     ∷ smooths Smallest (pos 2048) (pos 0) (pos 2048) 0 16384 (0 ∷ 4096 ∷ 0 ∷ 4096 ∷ 0 ∷ 4096 ∷ 0 ∷ 4096 ∷ 0 ∷ []) 3 3
-    (0 ∷ 0 ∷ 0 ∷ 0 ∷ 1600 ∷ 0 ∷ 0 ∷ 0 ∷ 0 ∷ []) (0 ∷ 400 ∷ 0 ∷ 400 ∷ 0 ∷ 400 ∷ 0 ∷ 400 ∷ 0 ∷ []) []
+    (0 ∷ 0 ∷ 0 ∷ 0 ∷ 1600 ∷ 0 ∷ 0 ∷ 0 ∷ 0 ∷ []) (0 ∷ 400 ∷ 0 ∷ 400 ∷ 0 ∷ 400 ∷ 0 ∷ 400 ∷ 0 ∷ [])
+    (prints "N\t2048\t0\t2048\t1\t3\t3\ts\n0\t0\t0\n0\t1600\t0\n0\t0\t0\n"
+    "K\t4\t0\t1\t0\t1\t0\t1\t0\t1\t0\nP\t3\t3\n0\t400\t0\n400\t0\t400\n0\t400\t0\n")
     -- b. "Matrix 0, 0, 0, k 1: centre only"
     ∷ accepted Binomial (pos 0) (pos 0) (pos 0) 1 0 16384 (0 ∷ 0 ∷ 0 ∷ 0 ∷ 16384 ∷ 0 ∷ 0 ∷ 0 ∷ 0 ∷ [])
-    (prints "J\t0\t0\t0\t1\t1\t1\n7\n" "K\t1\t0\t0\t0\t0\t1\t0\t0\t0\t0\nP\t1\t1\n7\n")
+    (prints "N\t0\t0\t0\t1\t1\t1\tb\n7\n" "K\t1\t0\t0\t0\t0\t1\t0\t0\t0\t0\nP\t1\t1\n7\n")
     -- c. "4096, 0, 4096, k 1: f 4096, corners 4096, rest 0"
     ∷ accepted Binomial (pos 4096) (pos 0) (pos 4096) 1 4096 16384 (4096 ∷ 0 ∷ 4096 ∷ 0 ∷ 0 ∷ 0 ∷ 4096 ∷ 0 ∷ 4096 ∷ [])
-    (prints "J\t4096\t0\t4096\t1\t1\t1\n7\n" "K\t4\t1\t0\t1\t0\t0\t0\t1\t0\t1\nP\t1\t1\n7\n")
+    (prints "N\t4096\t0\t4096\t1\t1\t1\tb\n7\n" "K\t4\t1\t0\t1\t0\t0\t0\t1\t0\t1\nP\t1\t1\n7\n")
     -- d. "4097, 0, 4096, k 1: 11"
-    ∷ refused Binomial (pos 4097) (pos 0) (pos 4096) 1 11 (prints "J\t4097\t0\t4096\t1\t1\t1\n7\n" "R\t11\n")
+    ∷ refused Binomial (pos 4097) (pos 0) (pos 4096) 1 11 (prints "N\t4097\t0\t4096\t1\t1\t1\tb\n7\n" "R\t11\n")
     -- e. "The same, k 2". "Case e has f 2049 and weights 2049 in the corners, 4096 beside, 4094 above and below, 8192 in the centre"
     ∷ accepted Binomial (pos 4097) (pos 0) (pos 4096) 2 2049 32768 (2049 ∷ 4094 ∷ 2049 ∷ 4096 ∷ 8192 ∷ 4096 ∷ 2049 ∷ 4094 ∷ 2049 ∷ [])
-    (prints "J\t4097\t0\t4096\t2\t1\t1\n7\n" "K\t32768\t2049\t4094\t2049\t4096\t8192\t4096\t2049\t4094\t2049\nP\t1\t1\n7\n")
+    (prints "N\t4097\t0\t4096\t2\t1\t1\tb\n7\n" "K\t32768\t2049\t4094\t2049\t4096\t8192\t4096\t2049\t4094\t2049\nP\t1\t1\n7\n")
     -- by the smallest: "f 1, corners 1, 8192 beside, 8190 above and below, centre 0"
-    ∷ accepted Smallest (pos 4097) (pos 0) (pos 4096) 2 1 32768 (1 ∷ 8190 ∷ 1 ∷ 8192 ∷ 0 ∷ 8192 ∷ 1 ∷ 8190 ∷ 1 ∷ []) []
+    ∷ accepted Smallest (pos 4097) (pos 0) (pos 4096) 2 1 32768 (1 ∷ 8190 ∷ 1 ∷ 8192 ∷ 0 ∷ 8192 ∷ 1 ∷ 8190 ∷ 1 ∷ [])
+    (prints "N\t4097\t0\t4096\t2\t1\t1\ts\n7\n" "K\t32768\t1\t8190\t1\t8192\t0\t8192\t1\t8190\t1\nP\t1\t1\n7\n")
     -- f. "1000, 1000, 1000, k 1: 2000 at (1,1) and (−1,−1), centre 12384, rest 0"
     ∷ accepted Binomial (pos 1000) (pos 1000) (pos 1000) 1 1000 16384 (2000 ∷ 0 ∷ 0 ∷ 0 ∷ 12384 ∷ 0 ∷ 0 ∷ 0 ∷ 2000 ∷ [])
-    (prints "J\t1000\t1000\t1000\t1\t1\t1\n7\n" "K\t1024\t125\t0\t0\t0\t774\t0\t0\t0\t125\nP\t1\t1\n7\n")
+    (prints "N\t1000\t1000\t1000\t1\t1\t1\tb\n7\n" "K\t1024\t125\t0\t0\t0\t774\t0\t0\t0\t125\nP\t1\t1\n7\n")
     -- g. "1000, 1001, 1000, k 1: 11"
-    ∷ refused Binomial (pos 1000) (pos 1001) (pos 1000) 1 11 (prints "J\t1000\t1001\t1000\t1\t1\t1\n7\n" "R\t11\n")
+    ∷ refused Binomial (pos 1000) (pos 1001) (pos 1000) 1 11 (prints "N\t1000\t1001\t1000\t1\t1\t1\tb\n7\n" "R\t11\n")
     -- h. "−1, 0, 0, k 1: 11"
-    ∷ refused Binomial (minus 1) (pos 0) (pos 0) 1 11 (prints "J\t-1\t0\t0\t1\t1\t1\n7\n" "R\t11\n")
+    ∷ refused Binomial (minus 1) (pos 0) (pos 0) 1 11 (prints "N\t-1\t0\t0\t1\t1\t1\tb\n7\n" "R\t11\n")
     -- i. "262144, 0, 0, k 64: accepted; k 65: 5". "never more than the smaller of xx and yy": f is 0, as it was
     ∷ accepted Binomial (pos 262144) (pos 0) (pos 0) 64 0 1048576 (0 ∷ 0 ∷ 0 ∷ 524288 ∷ 0 ∷ 524288 ∷ 0 ∷ 0 ∷ 0 ∷ [])
-    (prints "J\t262144\t0\t0\t64\t1\t1\n7\n" "K\t2\t0\t0\t0\t1\t0\t1\t0\t0\t0\nP\t1\t1\n7\n")
-    ∷ refused Binomial (pos 262144) (pos 0) (pos 0) 65 5 (prints "J\t262144\t0\t0\t65\t1\t1\n7\n" "R\t5\n")
+    (prints "N\t262144\t0\t0\t64\t1\t1\tb\n7\n" "K\t2\t0\t0\t0\t1\t0\t1\t0\t0\t0\nP\t1\t1\n7\n")
+    ∷ refused Binomial (pos 262144) (pos 0) (pos 0) 65 5 (prints "N\t262144\t0\t0\t65\t1\t1\tb\n7\n" "R\t5\n")
     -- j. "Pixels 0, 1 in a row, 4096, 0, 0, k 1: 1, 1": f is 0 here too
     ∷ smooths Binomial (pos 4096) (pos 0) (pos 0) 0 16384 (0 ∷ 0 ∷ 0 ∷ 8192 ∷ 0 ∷ 8192 ∷ 0 ∷ 0 ∷ 0 ∷ []) 2 1 (0 ∷ 1 ∷ []) (1 ∷ 1 ∷ [])
-    (prints "J\t4096\t0\t0\t1\t2\t1\n0\t1\n" "K\t2\t0\t0\t0\t1\t0\t1\t0\t0\t0\nP\t2\t1\n1\t1\n")
+    (prints "N\t4096\t0\t0\t1\t2\t1\tb\n0\t1\n" "K\t2\t0\t0\t0\t1\t0\t1\t0\t0\t0\nP\t2\t1\n1\t1\n")
     -- k. "Shape f over rows `16384 0`, `0 0`: `14384 2000`, `2000 2000`"
     ∷ smooths Binomial (pos 1000) (pos 1000) (pos 1000) 1000 16384 (2000 ∷ 0 ∷ 0 ∷ 0 ∷ 12384 ∷ 0 ∷ 0 ∷ 0 ∷ 2000 ∷ []) 2 2
     (16384 ∷ 0 ∷ 0 ∷ 0 ∷ []) (14384 ∷ 2000 ∷ 2000 ∷ 2000 ∷ [])
-    (prints "J\t1000\t1000\t1000\t1\t2\t2\n16384\t0\n0\t0\n" "K\t1024\t125\t0\t0\t0\t774\t0\t0\t0\t125\nP\t2\t2\n14384\t2000\n2000\t2000\n")
+    (prints "N\t1000\t1000\t1000\t1\t2\t2\tb\n16384\t0\n0\t0\n" "K\t1024\t125\t0\t0\t0\t774\t0\t0\t0\t125\nP\t2\t2\n14384\t2000\n2000\t2000\n")
     -- "rounded up", where the number is odd: half of 2049 + 2049 + 2049 − 4096 is 1025 and a half
     ∷ accepted Binomial (pos 2049) (pos 0) (pos 2049) 1 1026 16384 (1026 ∷ 2046 ∷ 1026 ∷ 2046 ∷ 4096 ∷ 2046 ∷ 1026 ∷ 2046 ∷ 1026 ∷ [])
-    (prints "J\t2049\t0\t2049\t1\t1\t1\n7\n" "K\t8192\t513\t1023\t513\t1023\t2048\t1023\t513\t1023\t513\nP\t1\t1\n7\n")
+    (prints "N\t2049\t0\t2049\t1\t1\t1\tb\n7\n" "K\t8192\t513\t1023\t513\t1023\t2048\t1023\t513\t1023\t513\nP\t1\t1\n7\n")
     ∷ []
 
 abbrev pub freeOf : Outcome → ℤ → ℕ

@@ -1,36 +1,47 @@
-//! Writes job texts for other programs to read: `texts FOLDER SEED COUNT`.
-//! Each is a file `NUMBER.text`: listed texts that are no jobs, the longest
-//! text and one of a byte more, and then jobs and damaged jobs in turn.
+//! Writes texts for the bench program to read: `texts FOLDER SEED COUNT`. Each
+//! is a file `NUMBER.text`: listed texts that are no N jobs and jobs that are
+//! refused; the fullest text, and texts of every length around the longest;
+//! then jobs, damaged jobs, jobs with a wrong choice and archived ones.
 
 use reference::generate::{
-    damaged_text, longest_text, random_covariance, random_job, TEXTS_THAT_ARE_NO_JOBS,
+    damaged_text, fullest_text, random_text, text_of_length, texts_that_are_no_jobs,
+    without_choice, written, LARGE_SIDES, LONG, REFUSED_JOBS,
 };
-use reference::job_text::print;
+use reference::job_text::Format;
+use reference::kernel::Choice;
 use reference::random::Random;
 use std::process::ExitCode;
 use std::{env, fs, io};
 
+/// Those that every seed has.
+fn listed() -> Vec<Vec<u8>> {
+    let mut list = texts_that_are_no_jobs(Format::N);
+    for choice in Choice::ALL {
+        for (text, _) in REFUSED_JOBS {
+            list.push(written(Format::N, choice, text));
+        }
+        list.push(fullest_text(Format::N, choice));
+        for (length, sides) in LONG.zip(LARGE_SIDES.into_iter().cycle()) {
+            list.push(text_of_length(Format::N, choice, sides, length));
+        }
+    }
+    list
+}
+
+fn generated(random: &mut Random) -> Vec<u8> {
+    let job = random_text(random, Format::N);
+    match random.below(8) {
+        0..=3 => job,
+        4 | 5 => damaged_text(random, &job),
+        6 => without_choice(random, &job),
+        _ => random_text(random, Format::J),
+    }
+}
+
 fn texts(seed: u64, count: usize) -> impl Iterator<Item = Vec<u8>> {
-    let listed = TEXTS_THAT_ARE_NO_JOBS
-        .iter()
-        .map(|text| text.as_bytes().to_vec());
-    let longest = [longest_text(0), longest_text(1)];
     let mut random = Random::new(seed);
-    let mut damage = false;
-    let others = std::iter::repeat_with(move || {
-        let mut job = random_job(&mut random);
-        if !random.once_in(4) {
-            (job.covariance, job.steps) = random_covariance(&mut random);
-        }
-        damage = !damage;
-        let text = print(&job);
-        if damage {
-            damaged_text(&mut random, &text)
-        } else {
-            text
-        }
-    });
-    listed.chain(longest).chain(others).take(count)
+    let others = std::iter::repeat_with(move || generated(&mut random));
+    listed().into_iter().chain(others).take(count)
 }
 
 fn write(arguments: &[String]) -> Result<(), String> {

@@ -10,7 +10,7 @@ trap 'rm -rf "$work"' EXIT
 
 # The proved calls under other names, and the faulty ones beside them.
 renamed=()
-for call in opening tick collect withdraw free_count change_over run_matrix_by; do
+for call in opening tick collect withdraw free_count change_over run_matrix_by convert_j_to_n convert_n_to_j; do
     renamed+=(--redefine-sym "vokhsaot_$call=proved_$call")
 done
 objcopy "${renamed[@]}" "$library/libcapi.a" "$work/libcapi.a"
@@ -48,6 +48,9 @@ change over
 tick
 collect 1
 LIST
+
+# An archived text.
+printf 'J\t2048\t0\t2048\t1\t2\t1\n0\t1600\n' >"$work/old.txt"
 
 failed=0
 # check FAULT STATUS WORDS [ARGUMENTS]: what the tool says of a fault, by default in a replay of the day's list
@@ -95,6 +98,12 @@ check 14 1 'WRONG ANSWER: refused (2); by the list accepted was due' "${changing
 check 15 1 'NO ANSWER: the call came back with a number that is no refusal' "${changing[@]}"
 check 16 1 "WRONG RECORD: seat 0's f is 1 (due: 0)" "${changing[@]}"
 check 16 1 'job 1: DIFFERS from its lone run' "${changing[@]}"
+# A converter: each text is converted back before it is written.
+converting=(convert --to n "$work/old.txt")
+check 0 0 $'N\t2048\t0\t2048\t1\t2\t1\ts' "${converting[@]}"
+check 17 1 'NOT THE SAME BACK: the way back is refused (14)' "${converting[@]}"
+check 18 1 'finds NOTHING WRONG with it' "${converting[@]}"
+check 19 1 'NOT THE SAME BACK: byte 26 is the first that differs' "${converting[@]}"
 
 # soak writes the list of a call that does not come back: its last call is the one.
 soaked=0

@@ -13,6 +13,8 @@ uint32_t proved_free_count(const uint64_t *words, size_t words_len, uint32_t *co
 uint32_t proved_change_over(const uint64_t *old_words, size_t old_words_len, uint64_t *words, size_t words_len);
 uint32_t proved_run_matrix_by(uint32_t choice, int32_t xx, int32_t xy, int32_t yy, uint32_t steps, uint32_t width,
                               uint32_t height, uint16_t *first, size_t first_len, uint16_t *second, size_t second_len);
+uint32_t proved_convert_j_to_n(const uint8_t *text, size_t text_len, uint8_t *out, size_t out_len);
+uint32_t proved_convert_n_to_j(const uint8_t *text, size_t text_len, uint8_t *out, size_t out_len);
 
 static int fault(void) {
     const char *number = getenv("VOKHSAOT_FAULT");
@@ -106,4 +108,25 @@ uint32_t vokhsaot_change_over(const uint64_t *old_words, size_t old_words_len, u
         words[seat * VOKHSAOT_SEAT_WORDS + VOKHSAOT_SEAT_F] += words[seat * VOKHSAOT_SEAT_WORDS] != 0;
     }
     return fault() == 15 ? 99 : code;
+}
+
+/* 17: the choice that is written down is b. 18: no text is a job. */
+uint32_t vokhsaot_convert_j_to_n(const uint8_t *text, size_t text_len, uint8_t *out, size_t out_len) {
+    if (fault() == 18) {
+        return VOKHSAOT_TEXT_IS_NO_JOB;
+    }
+    uint32_t code = proved_convert_j_to_n(text, text_len, out, out_len);
+    if (fault() == 17 && code == 0) {
+        ((uint8_t *)memchr(out, '\n', out_len))[-1] = 'b';
+    }
+    return code;
+}
+
+/* 19: on the way back the text's last digit becomes a newline. */
+uint32_t vokhsaot_convert_n_to_j(const uint8_t *text, size_t text_len, uint8_t *out, size_t out_len) {
+    uint32_t code = proved_convert_n_to_j(text, text_len, out, out_len);
+    if (fault() == 19 && code == 0) {
+        out[out_len - 2] = '\n';
+    }
+    return code;
 }

@@ -31,25 +31,25 @@ read-of c = c .before .before .before .before .before
 abbrev start-of : tie.After-read-job → tie.Start
 start-of c = c .before .before .before .before .before .before
 
-job-left : (c : tie.After-known-told) → Left (now (start-of (read-of c) .args .text)) (read-of c .read-job .last .1 .0) (c .before .header .given .0 .0)
+job-left : (c : tie.After-known-told) → Left (now (start-of (read-of c) .args .text)) (read-of c .read-job .last .1 .1 .0) (c .before .header .given .0 .0)
 job-left c =
     let r = read-of c in
     let s = start-of r in
-    left (now (s .args .text)) (now (s .args .first)) (r .read-job .last .1 .0) (c .before .header .given .0 .0)
+    left (now (s .args .text)) (now (s .args .first)) (r .read-job .last .1 .1 .0) (c .before .header .given .0 .0)
     (sym (r .read-job .ensures .0) ∙ c .before .header .given .1) (r .read-job .ensures .1)
 
 -- its pixels are the front of the first picture, which a part of the second matches
-size-fits : (c : tie.After-area) → c .area .result ≤ length (read-of (c .before) .read-job .last .1 .0)
+size-fits : (c : tie.After-area) → c .area .result ≤ length (read-of (c .before) .read-job .last .1 .1 .0)
 size-fits c = rw (c .area .ensures) (job-left (c .before) .inside)
 
 size-fits-second : (c : tie.After-area) → c .area .result ≤ length (now (start-of (read-of (c .before)) .args .second))
 size-fits-second c = rw (c .area .ensures) (le-trans (job-left (c .before) .fits) (start-of (read-of (c .before)) .pre .1 .1))
 
 text-is : (c : tie.After-area) → let r = read-of (c .before) in
-    jobAnswer (c .before .before .header .given .0 .0) (take (c .area .result) (r .read-job .last .1 .0)) ≡ answerText (now (start-of r .args .text))
+    jobAnswer (c .before .before .header .given .0 .0) (take (c .area .result) (r .read-job .last .1 .1 .0)) ≡ answerText (now (start-of r .args .text))
 text-is c =
     let r = read-of (c .before) in
-    ap (λ n. jobAnswer (c .before .before .header .given .0 .0) (take n (r .read-job .last .1 .0))) (c .area .ensures) ∙ sym (job-left (c .before) .answer)
+    ap (λ n. jobAnswer (c .before .before .header .given .0 .0) (take n (r .read-job .last .1 .1 .0))) (c .area .ensures) ∙ sym (job-left (c .before) .answer)
 
 slice-relend-prefix-run-job : tie.Need-slice-relend-prefix-run-job
 slice-relend-prefix-run-job c = size-fits (c .before)
@@ -57,7 +57,7 @@ slice-relend-prefix-run-job c = size-fits (c .before)
 slice-aggregate-run-job : tie.Need-slice-aggregate-run-job
 slice-aggregate-run-job c =
     let a = c .before .before in
-    sym (length-take-le (a .area .result) (read-of (a .before) .read-job .last .1 .0) (size-fits a))
+    sym (length-take-le (a .area .result) (read-of (a .before) .read-job .last .1 .1 .0) (size-fits a))
 
 slice-relend-prefix-run-job-2 : tie.Need-slice-relend-prefix-run-job-2
 slice-relend-prefix-run-job-2 c = size-fits-second (c .before .before)
@@ -72,7 +72,7 @@ run-job-requires c κs =
     let a = c .before .before .before in
     let r = read-of (a .before) in
     let s = start-of r in (
-      length-take-le (a .area .result) (r .read-job .last .1 .0) (size-fits a) ∙ a .area .ensures,
+      length-take-le (a .area .result) (r .read-job .last .1 .1 .0) (size-fits a) ∙ a .area .ensures,
       (
         length-take-le (a .area .result) (now (s .args .second)) (size-fits-second a) ∙ a .area .ensures,
         rw (text-is a) (le-trans (answer-short (now (s .args .text))) (s .pre .0)),

@@ -10,7 +10,6 @@ use mir.ValLaws.{toZ-ofZ}
 use denote.Ref.{now}
 use Rattle.limits.specs.Errors.{firstRefusal}
 use Rattle.limits.specs.declared.Outcome.the-variants.{Accepted}
-use Rattle.kernel.specs.Choice.{defaultChoice}
 use Rattle.kernel.specs.Answer.{kernelAnswer}
 use Rattle.kernel.proofs.Answers.{present}
 use Rattle.kernel.proofs.Theorems.{sound-by}
@@ -24,13 +23,13 @@ use Rattle.job_text.proofs.put_result.Statement.{statement}
 use Rattle.job_text.proofs.put_result.Tie as tie
 
 module _ (h : Header) (accepted : firstRefusal (jobChecks h) ≡ Accepted) where
-  answered : kernelAnswer defaultChoice (h .xx) (h .xy) (h .yy) (h .steps) .kernel ≡ jobKernel h
-  answered = let holds = all-hold (jobChecks h) accepted in rw (present defaultChoice (h .xx) (h .xy) (h .yy) (h .steps) (holds .0) (holds .1 .1 .0))
+  answered : kernelAnswer (h .choice) (h .xx) (h .xy) (h .yy) (h .steps) .kernel ≡ jobKernel h
+  answered = let holds = all-hold (jobChecks h) accepted in rw (present (h .choice) (h .xx) (h .xy) (h .yy) (h .steps) (holds .0) (holds .1 .1 .0))
 
   positive : 0 < jobKernel h .sum
   positive =
       let holds = all-hold (jobChecks h) accepted in
-      normalized (jobKernel h) (h .steps) (sound-by defaultChoice (h .xx) (h .xy) (h .yy) (h .steps) (holds .0) (holds .1 .1 .0)) .positive
+      normalized (jobKernel h) (h .steps) (sound-by (h .choice) (h .xx) (h .xy) (h .yy) (h .steps) (holds .0) (holds .1 .1 .0)) .positive
 
 kernel-by-requires : tie.Need-kernel-by-requires
 kernel-by-requires c κs = search needs

@@ -8,7 +8,6 @@ use denote.Ref.{now}
 use lib.ListN.{length}
 use Rattle.limits.specs.Errors.{firstRefusal}
 use Rattle.limits.specs.declared.Outcome.the-variants.{Accepted}
-use Rattle.kernel.specs.Choice.{defaultChoice}
 use Rattle.smoothing.specs.Runs.{Result, runOf}
 use Rattle.smoothing.proofs.Theorems.{shownAfter}
 use Rattle.job_printer.specs.Lines.{refusalText}
@@ -18,22 +17,22 @@ use Rattle.job_text.proofs.Runs.{shapeOf, run-answers, shown-after, ref
 use Rattle.job_text.proofs.run_job.Statement.{statement}
 use Rattle.job_text.proofs.run_job.Tie as tie
 
-run-requires : tie.Need-run-requires
-run-requires c κs = search needs
+run-by-requires : tie.Need-run-by-requires
+run-by-requires c κs = search needs
 
 -- what the run answers, and which job it ran
-abbrev start-of : tie.After-run → tie.Start
+abbrev start-of : tie.After-run-by → tie.Start
 start-of c = c .before .before .before .before .before .before .before
 
-abbrev ran : tie.After-run → Result
-ran c = let a = start-of c .args in runOf defaultChoice (shapeOf (a .header)) (a .header .steps) (a .header .width) (a .header .height) (now (a .first)) (now (a .second))
+abbrev ran : tie.After-run-by → Result
+ran c = let a = start-of c .args in runOf (a .header .choice) (shapeOf (a .header)) (a .header .steps) (a .header .width) (a .header .height) (now (a .first)) (now (a .second))
 
-run-is : (c : tie.After-run) → (c .run .result ≡ ran c .outcome) × ((c .run .last .1 .1 .1 .1 .0 ≡ ran c .first) × (c .run .last .1 .1 .1 .1 .1 .0 ≡ ran c .second))
+run-is : (c : tie.After-run-by) → (c .run-by .result ≡ ran c .outcome) × ((c .run-by .last .1 .1 .1 .1 .1 .0 ≡ ran c .first) × (c .run-by .last .1 .1 .1 .1 .1 .1 .0 ≡ ran c .second))
 run-is c =
     let h = start-of c .args .header in
-    rw (toZ-ofZ w32 (h .xx) (search needs), toZ-ofZ w32 (h .xy) (search needs), toZ-ofZ w32 (h .yy) (search needs)) at (c .run .ensures)
+    rw (toZ-ofZ w32 (h .xx) (search needs), toZ-ofZ w32 (h .xy) (search needs), toZ-ofZ w32 (h .yy) (search needs)) at (c .run-by .ensures)
 
-outcome-is : (c : tie.After-run) → c .run .result ≡ firstRefusal (jobChecks (start-of c .args .header))
+outcome-is : (c : tie.After-run-by) → c .run-by .result ≡ firstRefusal (jobChecks (start-of c .args .header))
 outcome-is c =
     let s = start-of c in
     run-is c .0 ∙ run-answers (s .args .header) (now (s .args .first)) (now (s .args .second)) (s .pre .0) (s .pre .1 .0)
@@ -45,14 +44,14 @@ shown-requires : tie.Need-shown-requires
 shown-requires c κs = search needs
 
 -- the run was accepted
-abbrev run-of : tie.After-shown → tie.After-run
+abbrev run-of : tie.After-shown → tie.After-run-by
 run-of c = c .before .before .before .before .before .before .before .before .before
 
 accepted : (c : tie.After-shown) → firstRefusal (jobChecks (start-of (run-of c) .args .header)) ≡ Accepted
 accepted c = sym (outcome-is (run-of c)) ∙ c .before .before .before .enum-told .given .1
 
 pixels-are : (c : tie.After-shown) → let a = start-of (run-of c) .args in
-    now (c .shown .result) ≡ shownAfter defaultChoice (shapeOf (a .header)) (a .header .steps) (a .header .width) (a .header .height) (now (a .first)) (now (a .second))
+    now (c .shown .result) ≡ shownAfter (a .header .choice) (shapeOf (a .header)) (a .header .steps) (a .header .width) (a .header .height) (now (a .first)) (now (a .second))
 pixels-are c =
     let r = run-of c in
     let s = start-of r in
@@ -77,7 +76,7 @@ enum-known-code : tie.Need-enum-known-code
 enum-known-code c = search needs
 
 -- the run was refused
-abbrev refused-run : tie.After-code → tie.After-run
+abbrev refused-run : tie.After-code → tie.After-run-by
 refused-run c = c .before .before .before .before .before .before
 
 refusal-is : (c : tie.After-code) → let a = start-of (refused-run c) .args in refusalText (c .code .given .0 .0) ≡ jobAnswer (a .header) (now (a .first))
@@ -122,7 +121,7 @@ pub run-job-spec : {M : Type 1} → statement M
 run-job-spec =
     tie.close
     (tie.spec
-    run-requires
+    run-by-requires
     enum-told
     shown-requires
     put-result-requires

@@ -1,0 +1,2 @@
+-- A job text in another format.
+pub mod Conversion
