@@ -269,6 +269,24 @@ def growth(proved):
             row(f"{title}: {width} × {height}, {steps} steps", statistics.median(times[case]) / work[0], "ns a pixel and step", ratio)
 
 
+def conversions(library, text, called):
+    """The longest N text with s to J, and back; many calls at a time, since each is short."""
+    calls = 50
+    back, again = ctypes.create_string_buffer(len(text) - 2), ctypes.create_string_buffer(len(text))
+    arguments = [ctypes.c_char_p, ctypes.c_size_t, ctypes.c_void_p, ctypes.c_size_t]
+    ways = [(library.vokhsaot_convert_n_to_j, text, back), (library.vokhsaot_convert_j_to_n, None, again)]
+    for number, (convert, given, out) in enumerate(ways):
+        convert.argtypes = arguments
+        given = given or back.raw
+        if convert(given, len(given), out, len(out)) != 0:
+            sys.exit("the longest text does not convert")
+        times = measure({"way": lambda: [convert(given, len(given), out, len(out)) for _ in range(calls)]})
+        took = statistics.median(times["way"]) / calls
+        row(["the same with s, from N to J: the call", "and back from J to N"][number], took / 1e6, "ms", took / called)
+    if again.raw != text:
+        sys.exit("the longest text does not come back to the same bytes")
+
+
 def texts(library, program):
     """The longest text, by a call and by the program, start-up included."""
     rows = ("\t".join(["7"] * 90) + "\n") * 90
@@ -291,6 +309,7 @@ def texts(library, program):
         sys.exit("the call and the program answer the longest text otherwise")
     row(f"text of {len(text)} bytes, 64 steps: the call", called / 1e6, "ms", 1)
     row("the same by the program, start-up included, wall clock", statistics.median(walls) / 1e6, "ms", statistics.median(walls) / called)
+    conversions(library, text.replace(b"\tb\n", b"\ts\n", 1), called)
     return statistics.median(walls) / 1e6
 
 
