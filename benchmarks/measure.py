@@ -25,6 +25,7 @@ BINOMIAL, SMALLEST = 0, 1
 CHOICES = {BINOMIAL: "no choice named", SMALLEST: "the choice \"smallest\""}
 FORMS = [
     ("proved", "vector", "proved", "the proved run"),
+    ("in place", "vector", "in_place", "the proved run within one picture"),
     ("indexed", "vector", "indexed", "C, five multiplications, by index, gcc -O3"),
     ("buffered", "vector", "buffered", "C, the same products, through line buffers, gcc -O3"),
     ("indexed, scalar", "scalar", "indexed", "the same by index, -fno-tree-vectorize"),
@@ -51,6 +52,7 @@ def shape_argument(shape):
 
 
 def runner(folder, library, name):
+    """A form of the run, as a call from Python; left(..) is the picture that holds its last step."""
     function = getattr(ctypes.CDLL(f"{folder}/{library}.so"), name)
     function.argtypes = [ctypes.c_uint32, ctypes.c_void_p] + [ctypes.c_uint32] * 3 + [ctypes.c_void_p] * 2 + [ctypes.c_size_t]
 
@@ -61,6 +63,7 @@ def runner(folder, library, name):
         if code != 0:
             sys.exit(f"{name} was refused: {code}")
 
+    call.left = lambda steps, first, second: second if steps % 2 and name != "in_place" else first
     return call
 
 
@@ -126,7 +129,7 @@ def compare_one(runs, shape, steps, image, choice):
     for name, run in runs.items():
         first, second = image.copy(), numpy.zeros_like(image)
         run(shape, steps, first, second, choice=choice)
-        if not numpy.array_equal(second if steps % 2 else first, wanted):
+        if not numpy.array_equal(run.left(steps, first, second), wanted):
             height, width = image.shape
             sys.exit(f"{name} differs from the definition: {width} x {height}, {shape}, {steps} steps, {CHOICES[choice]}")
 
@@ -160,49 +163,77 @@ def ratio_to(times, name, base):
     return statistics.median(t / own for t, own in zip(times[name], times[base]))
 
 
-def smoothing(runs, width, height, steps, repeats):
-    """Each form beside the proved run; answers the two ratios that are wanted."""
+def smoothing(runs, width, height, steps, repeats, beside=True):
+    """Each form beside the proved run, which is the first, and with them what is no form; answers all ratios."""
     source = numpy.random.default_rng(2).integers(0, 65536, (height, width), dtype=numpy.uint16)
     other = numpy.zeros_like(source)
     calls = {name: (lambda run=run: run(SHAPE, steps, source, other, repeats)) for name, run in runs.items()}
-    titles = {name: title for name, _, _, title in FORMS}
+    titles = {name: title for name, _, _, title in FORMS if name in runs}
+    if beside:
+        add_others(runs, calls, titles, steps, source, other, repeats)
+    times = measure(calls)
+    work = width * height * steps * repeats
+    ratios = {name: ratio_to(times, name, "proved") for name in calls}
+    for name, title in titles.items():
+        row(f"{width} × {height}: {title}", statistics.median(times[name]) / work, "ns a pixel and step", ratios[name])
+    return ratios
+
+
+def add_others(runs, calls, titles, steps, source, other, repeats):
+    """The proved run by the other choice, where its kernel is another one, and filter2D, to the forms that are measured."""
     if weights_of(SHAPE, steps, SMALLEST) != weights_of(SHAPE, steps):
         calls["smallest"] = lambda: runs["proved"](SHAPE, steps, source, other, repeats, SMALLEST)
         titles["smallest"] = f"the proved run, {CHOICES[SMALLEST]}"
     if cv2 is not None:
         calls["filter2D"] = lambda: filtered(SHAPE, steps, source, other, repeats)
         titles["filter2D"] = f"OpenCV {cv2.__version__} filter2D, replicated border"
-    times = measure(calls)
-    work = width * height * steps * repeats
-    for name, title in titles.items():
-        row(f"{width} × {height}: {title}", statistics.median(times[name]) / work, "ns a pixel and step", ratio_to(times, name, "proved"))
-    fastest = min(ratio_to(times, name, "proved") for name in ("indexed", "buffered"))
-    return fastest, ratio_to(times, "filter2D", "proved") if cv2 is not None else None
+
+
+def kind_calls(runs, width, height, repeats):
+    """A call of each of the runs by each kind of kernel, all over the same pictures, and the pixels and steps that it makes."""
+    source = numpy.random.default_rng(4).integers(0, 65536, (height, width), dtype=numpy.uint16)
+    other = numpy.zeros_like(source)
+    calls, work = {}, {}
+    for title, shape, steps, choice, _ in KINDS:
+        work[title] = width * height * steps * max(repeats // steps, 1)
+        for name, run in runs.items():
+            calls[name, title] = lambda run=run, shape=shape, steps=steps, choice=choice: run(
+                shape, steps, source, other, max(repeats // steps, 1), choice)
+    return calls, work
 
 
 def kinds(runs, width, height, repeats):
     """Kernels of each kind beside the first, and beside another version of the library where there is one."""
-    source = numpy.random.default_rng(4).integers(0, 65536, (height, width), dtype=numpy.uint16)
-    other = numpy.zeros_like(source)
-    calls = {}
-    for title, shape, steps, choice, _ in KINDS:
-        for name in ("proved", "other"):
-            if name in runs:
-                calls[name, title] = lambda run=runs[name], shape=shape, steps=steps, choice=choice: run(
-                    shape, steps, source, other, max(repeats // steps, 1), choice)
+    calls, work = kind_calls(runs, width, height, repeats)
     times = measure(calls)
     slowest = []
-    for title, shape, steps, choice, count in KINDS:
-        work = width * height * steps * max(repeats // steps, 1)
-        first = width * height * KINDS[0][2] * max(repeats // KINDS[0][2], 1)
+    for title, _, _, _, count in KINDS:
         note = f"{count} products"
         if "other" in runs:
             gain = ratio_to(times, ("other", title), ("proved", title))
             slowest.append(gain)
             note += f"; the other version takes {gain:.2f} times as long"
-        ratio = statistics.median(t / work / (b / first) for t, b in zip(times["proved", title], times["proved", KINDS[0][0]]))
-        row(f"{width} × {height}: {title}", statistics.median(times["proved", title]) / work, "ns a pixel and step", ratio, note)
+        first = KINDS[0][0]
+        ratio = statistics.median(t / work[title] / (b / work[first]) for t, b in zip(times["proved", title], times["proved", first]))
+        row(f"{width} × {height}: {title}", statistics.median(times["proved", title]) / work[title], "ns a pixel and step", ratio, note)
     return min(slowest, default=None)
+
+
+def kinds_in_place(runs, width, height, repeats):
+    """Kernels of each kind within one picture, each beside the same between two, which is measured in turn with it."""
+    calls, work = kind_calls(runs, width, height, repeats)
+    times = measure(calls)
+    ratios = []
+    for title, *_ in KINDS:
+        ratios.append(ratio_to(times, ("in place", title), ("proved", title)))
+        between = statistics.median(times["proved", title]) / work[title]
+        note = f"{between:.3f} between two"
+        if "other in place" in runs:
+            gain = ratio_to(times, ("other in place", title), ("in place", title))
+            note += f"; the other version takes {gain:.2f} times as long within one"
+        row(f"{width} × {height}, within one picture (beside between two): {title}",
+            statistics.median(times["in place", title]) / work[title], "ns a pixel and step", ratios[-1], note)
+    return min(ratios), max(ratios)
 
 
 def kernels(library):
@@ -320,27 +351,37 @@ def main():
     runs = {name: runner(folder, library, function) for name, library, function, _ in FORMS}
     library = ctypes.CDLL(f"{folder}/vector.so")
     versions = {"proved": runs["proved"]}
+    in_place = {name: runs[name] for name in ("proved", "in place")}
     older = None
     if os.path.exists(f"{folder}/other.so"):
         versions["other"] = runner(folder, "other", "proved")
         older = ctypes.CDLL(f"{folder}/other.so")
-    compare(runs | versions)
+        if hasattr(older, "in_place"):
+            in_place["other in place"] = runner(folder, "other", "in_place")
+    compare(runs | versions | in_place)
     print(f"One run on {platform.machine()}, one thread, CPU time, medians of {ROUNDS} rounds; every form in turn in each round,")
     print("so that buffers are warm, and none is cleared between. A ratio is to the first row of its group.\n")
     print("| what | time | unit | ratio | |\n|---|---|---|---|---|")
-    large = smoothing(runs, 1024, 1024, 4, 1)
-    smoothing(runs, 32, 32, 16, 32)
+    large, small = smoothing(runs, 1024, 1024, 4, 1), smoothing(runs, 32, 32, 16, 32)
     smoothing(runs, 1000, 3, 16, 8)
+    own = {name: run for name, run in in_place.items() if name in runs}
+    smoothing(own, 33, 33, 16, 32, beside=False)
+    smoothing(own, 100, 100, 16, 4, beside=False)
     slowest = [kinds(versions, 1024, 1024, 4), kinds(versions, 32, 32, 512)]
+    within = [kinds_in_place(in_place, 1024, 1024, 4), kinds_in_place(in_place, 32, 32, 512)]
     kernels(library)
     share = service(library, runs["proved"], older)
     slow = texts(library, program)
     growth(runs["proved"])
-    print(f"\nthe faster C at gcc -O3 takes {large[0]:.2f} times as long as the proved step (wanted: at least 1)")
-    if large[1] is not None:
-        print(f"filter2D takes {large[1]:.2f} times as long as the proved step (wanted: at least 2.3)")
+    fastest = min(large["indexed"], large["buffered"])
+    print(f"\nthe faster C at gcc -O3 takes {fastest:.2f} times as long as the proved step (wanted: at least 1)")
+    if "filter2D" in large:
+        print(f"filter2D takes {large['filter2D']:.2f} times as long as the proved step (wanted: at least 2.3)")
     if older is not None:
         print(f"no kernel takes the other version less than {slowest[0]:.2f} times as long at 1024 × 1024, and {slowest[1]:.2f} at 32 × 32")
+    for sides, ratios, (least, most) in (("1024 × 1024", large, within[0]), ("32 × 32", small, within[1])):
+        print(f"within one picture a run takes {ratios['in place']:.2f} times as long as between two at {sides}, ", end="")
+        print(f"by kernels of each kind {least:.2f} to {most:.2f}")
     print(f"the service's own share of a tick is at most {100 * share:.1f} % (wanted: under 10)")
     print(f"a full-size text takes {slow:.1f} ms, start-up included (wanted: under 20)")
 

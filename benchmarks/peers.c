@@ -186,6 +186,20 @@ uint32_t proved(uint32_t choice, const int32_t *shape, uint32_t steps, uint32_t 
     return code;
 }
 
+/* The same within one picture, the first; the second is not lent. A version from before 0.6.0 has no such run. */
+#ifndef BEFORE_IN_PLACE
+uint32_t in_place(uint32_t choice, const int32_t *shape, uint32_t steps, uint32_t width, uint32_t height, uint16_t *first,
+                  uint16_t *second, size_t repeats)
+{
+    size_t size = (size_t)width * height;
+    uint32_t code = 0;
+    (void)second;
+    for (size_t n = 0; n < repeats; n++)
+        code |= vokhsaot_run_in_place_matrix_by(choice, shape[0], shape[1], shape[2], steps, width, height, first, size);
+    return code;
+}
+#endif
+
 /* Kernels alone: what a run works out once before its steps. */
 uint32_t kernels(uint32_t choice, const int32_t *shape, uint32_t steps, size_t repeats)
 {

@@ -1,12 +1,14 @@
 #!/bin/sh
-# The benchmark: smoothing beside a plain C version, the five-multiplication C version at gcc -O3 and OpenCV's filter2D, and by
-# both choices of a kernel; kernels of each kind, by the products that a pixel needs; ticks of the service beside the bare step; job
-# texts; growth with pixels, steps and jobs. Prints one table of ratios from one run.
+# The benchmark: smoothing beside a plain C version, the five-multiplication C version at gcc -O3 and OpenCV's filter2D, within one
+# picture, and by both choices of a kernel; kernels of each kind, by the products that a pixel needs, and each within one picture beside
+# between two; ticks of the service beside the bare step; job texts; growth with pixels, steps and jobs. Prints one table of ratios from
+# one run.
 #
 # usage: benchmarks/run.sh [LIBRARY]
 #
-# LIBRARY is the libcapi.a of another version: kernels of each kind and ticks are then measured by both, in turn, and the table says how
-# many times as long the other takes. Needs rt, gcc, and Debian's python3-numpy; with python3-opencv filter2D is measured too.
+# LIBRARY is the libcapi.a of another version: kernels of each kind, within one picture too if it has such a run, and ticks are then
+# measured by both, in turn, and the table says how many times as long the other takes. Needs rt, gcc, and Debian's python3-numpy; with
+# python3-opencv filter2D is measured too.
 set -eu
 here=$(cd "$(dirname "$0")" && pwd -P)
 root=$(dirname "$here")
@@ -26,7 +28,12 @@ build vector "$own"
 build scalar "$own" -fno-tree-vectorize
 rm -f "$work/other.so"
 if [ $# -gt 0 ]; then
-    # a version from before 0.4.0 has a service of other words and names
-    if nm "$1" | grep -q ' T vokhsaot_submit_matrix_by$'; then build other "$1"; else build other "$1" -DBEFORE_CHANGE_OVER; fi
+    has() { nm "$other" | grep -q " T $1\$"; }
+    other=$1
+    set --
+    # a version from before 0.4.0 has a service of other words and names, one from before 0.6.0 no run within one picture
+    has vokhsaot_submit_matrix_by || set -- "$@" -DBEFORE_CHANGE_OVER
+    has vokhsaot_run_in_place_matrix_by || set -- "$@" -DBEFORE_IN_PLACE
+    build other "$other" "$@"
 fi
 exec /usr/bin/python3 "$here/measure.py" "$work" "$root/target/bin/bench"

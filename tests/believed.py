@@ -15,7 +15,7 @@ README = ROOT / "README.md"
 MARKS = ("<!-- believed: begin -->", "<!-- believed: end -->")
 
 # Crates whose functions ask something of their callers: their contracts promise nothing to a user.
-INNER = {"row_core", "stepping", "slots", "buffers", "record_words", "job_printer", "job_parser"}
+INNER = {"row_core", "stepping", "in_place", "slots", "buffers", "record_words", "job_printer", "job_parser"}
 
 # What the theorems say that no contract cites: crate, and the definition that a statement is made of.
 THEOREMS = [

@@ -6,9 +6,10 @@ usage: tests/row_loops.py LIBRARY      LIBRARY is the libcapi.a that `rt staticl
 
 The proved code has one loop over a row, in which every product stands. It is called once for each kind of kernel, with a constant 0 for
 the products that the kind does not need, and the compiler draws it into each call and leaves them out. No proof says that it
-does: where it stops doing so, pixels are the same and take twice as long. So this test reads what it did. A loop makes four pixels at a time:
-two multiplications (pmuludq) for each product and two for the division, and one load (movdqu) for each pixel of the three lines
-that has a weight. By these two numbers the loops of each kind are told apart, in both places that make rows. Needs objdump.
+does: where it stops doing so, pixels are the same and take twice as long. So this test reads what it did. A loop over lines makes four pixels
+at a time: two multiplications (pmuludq) for each product and two for the division, and one load (movdqu) for each pixel of the three lines
+that has a weight. One over pixels as they stand makes eight, with twice the multiplications and as many loads. By these two numbers the loops of
+each kind are told apart, in every place that makes rows. Needs objdump.
 """
 import collections
 import re
@@ -31,8 +32,8 @@ KINDS = {
     "cross": (3, 5),
     "even_cross": (2, 5),
 }
-# where rows are made: small images, and images that pass through three lines
-PLACES = ("stepping::step_all", "stepping::step")
+# where rows are made, and how many pixels at a time: small images, images that pass through three lines, and bands within one image
+PLACES = {"stepping::step_all": 4, "stepping::step": 4, "in_place::make_band": 8}
 
 
 def functions(text):
@@ -64,8 +65,8 @@ def inner_loops(body):
 
 
 def is_row_loop(loop):
-    """Whether a loop stores four pixels that were divided: what no other vectorised loop of these functions does."""
-    return any(re.match(r"movq\s+%xmm\d+,.*\(", code) for code in loop) and any(code.startswith("packssdw") for code in loop)
+    """Whether a loop stores pixels that were divided: what no other vectorised loop of these functions does."""
+    return any(re.match(r"mov(q|dqu)\s+%xmm\d+,.*\(", code) for code in loop) and any(code.startswith("packssdw") for code in loop)
 
 
 def numbers_of(loop):
@@ -75,9 +76,13 @@ def numbers_of(loop):
     return multiplications, loads
 
 
+def right_loops(name):
+    """The two numbers of each kind's loop in a place."""
+    return {kind: (PLACES[name] // 2 * (products + 1), loads) for kind, (products, loads) in KINDS.items()}
+
+
 def faults_of(text):
     """What is wrong with the loops over a row in a disassembly."""
-    wanted = collections.Counter((2 * products + 2, loads) for products, loads in KINDS.values())
     found = {name: collections.Counter() for name in PLACES}
     faults = []
     for name, body in functions(text):
@@ -87,9 +92,11 @@ def faults_of(text):
             else:
                 faults.append(f"{name}: a loop over a row, which is made nowhere else")
     for name, loops in found.items():
+        right = right_loops(name)
+        wanted = collections.Counter(right.values())
         for kind in sorted((wanted - loops) + (loops - wanted)):
             is_there = f"{loops[kind]} loops of {kind[0]} multiplications and {kind[1]} loads"
-            names = ", ".join(k for k, (products, loads) in KINDS.items() if (2 * products + 2, loads) == kind)
+            names = ", ".join(k for k, numbers in right.items() if numbers == kind)
             faults.append(f"{name}: {is_there}, and not {wanted[kind]} ({names or 'no kind of kernel'})")
     return faults
 
@@ -111,15 +118,17 @@ def disassembly(loops):
 
 
 def self_test():
-    right = [(2 * products + 2, loads) for products, loads in KINDS.values()]
-    assert faults_of(disassembly({name: right for name in PLACES})) == []
-    # one multiplication too many, a loop that is missing, one that is not vectorised, one elsewhere
-    more = [(right[0][0] + 1, 9)] + right[1:]
-    assert len(faults_of(disassembly({PLACES[0]: more, PLACES[1]: right}))) == 2
-    assert len(faults_of(disassembly({PLACES[0]: right[1:], PLACES[1]: right}))) == 1
-    assert len(faults_of(disassembly({PLACES[0]: right, PLACES[1]: right[:-1] + [(0, 0)]}))) == 2
-    assert len(faults_of(disassembly({PLACES[0]: right}))) == len(set(right))
-    assert len(faults_of(disassembly({name: right for name in PLACES + ("elsewhere",)}))) == len(right)
+    right = {name: list(right_loops(name).values()) for name in PLACES}
+    assert faults_of(disassembly(right)) == []
+    # one multiplication too many, a loop that is missing, one that is not vectorised, one elsewhere, and those of another place
+    for name, loops in right.items():
+        more = [(loops[0][0] + 1, 9)] + loops[1:]
+        assert len(faults_of(disassembly({**right, name: more}))) == 2
+        assert len(faults_of(disassembly({**right, name: loops[1:]}))) == 1
+        assert len(faults_of(disassembly({**right, name: loops[:-1] + [(0, 0)]}))) == 2
+        assert len(faults_of(disassembly({**right, name: []}))) == len(set(loops))
+        assert len(faults_of(disassembly({**right, "elsewhere": loops}))) == len(loops)
+    assert faults_of(disassembly({**right, "in_place::make_band": right["stepping::step"]})) != []
     print("the loops of some lines are told as meant")
 
 

@@ -28,9 +28,11 @@
  * need a lock of the caller's, unless both only read it (a parameter that points to const).
  *
  * NEEDS. Of the C library memcpy and memset, and nothing else. Stack: vokhsaot_answer_text() takes at most 48 KiB,
- * vokhsaot_convert_j_to_n() and vokhsaot_convert_n_to_j() at most 20 KiB, a run and a tick at most 16 KiB, every other call at
- * most 4 KiB, with what memcpy and memset take besides. Every call ends: a run takes time in proportion to steps x width x height,
- * a tick to width x height, a conversion to the text's length.
+ * vokhsaot_convert_j_to_n() and vokhsaot_convert_n_to_j() at most 20 KiB, a run between two pictures and a tick at most 16 KiB,
+ * a run within one picture at most 5 KiB, every other call at most 4 KiB, with what memcpy and memset take besides.
+ * Measured, a run within one picture takes about 4.8 KiB, whatever the picture's size (c/tests/object_code.py prints the bytes).
+ * Every call ends: a run takes time in proportion to steps x width x height, a tick to width x height, a conversion to the
+ * text's length.
  */
 #ifndef VOKHSAOT_H
 #define VOKHSAOT_H
@@ -44,9 +46,9 @@ extern "C" {
 
 /* ---- Version. The library has the soname libvokhsaot.so.MAJOR.MINOR: with another of these, compile again. */
 
-#define VOKHSAOT_VERSION "0.5.0"
+#define VOKHSAOT_VERSION "0.6.0"
 #define VOKHSAOT_VERSION_MAJOR 0
-#define VOKHSAOT_VERSION_MINOR 5
+#define VOKHSAOT_VERSION_MINOR 6
 #define VOKHSAOT_VERSION_PATCH 0
 
 /* ---- Limits. Whole numbers, for #if too. */
@@ -194,7 +196,8 @@ static inline const char *vokhsaot_refusal_text(uint32_t number) {
  * calls with one; the library does not export them. An object that was compiled with the header from before the choice
  * therefore does not link, where it would otherwise pass its arguments one place off. Compiled again, its source as it is goes
  * by VOKHSAOT_BINOMIAL. Kernels and runs have had the choice since 0.2.0, submits since 0.4.0; until then all jobs went by
- * VOKHSAOT_SMALLEST, which a source that must keep a job's pixels as they were has to name now.
+ * VOKHSAOT_SMALLEST, which a source that must keep a job's pixels as they were has to name now. Runs within one picture, which
+ * came with 0.6.0, have had it from their beginning.
  */
 enum { VOKHSAOT_BINOMIAL = 0, VOKHSAOT_SMALLEST = 1 };
 
@@ -380,6 +383,101 @@ static inline uint32_t vokhsaot_run_oval(double long_variance, double short_vari
  *   5  steps are not 1 to 64
  */
 uint32_t vokhsaot_shown(uint32_t steps, uint32_t *picture);
+
+/*
+ * Runs within one picture: the calls vokhsaot_run_in_place_.. below. Which run to use:
+ *   - A run within one picture, where there is memory for one only, or where the step before the last is not wanted. Beside the
+ *     picture it keeps two lines of 1024 pixels on its stack (see NEEDS), whatever the picture's size, and the last step is
+ *     always in that picture.
+ *   - A run between two pictures, by the calls above, where the step before the last is wanted too (or, of a run of one step, the
+ *     picture as it was).
+ * The last step has exactly the same pixels by both (S5.1).
+ *
+ * A step reads rows as they were before it, so no new row can stand in its place before the row below it is made. New rows are
+ * made in bands of whole rows, of at most 1024 pixels. A new band waits in one of the two lines until the band below it is made,
+ * and is then put in its place. So while the call works, the picture holds rows of two steps: nobody else may read it before
+ * the call returns, and one who must be able to begin again after a loss of power keeps a copy elsewhere.
+ */
+
+/*
+ * Whole numbers. A run of so many steps by a matrix and a choice, within one picture of width x height pixels. It starts from
+ * what the picture holds, and leaves the last step there: exactly the pixels of vokhsaot_run_matrix_by() in the picture that
+ * vokhsaot_shown() tells. Each step is rounded to the nearest whole number, halves upward (R1, R2). A refused run leaves the
+ * picture as it was, whole (S5.1 to S5.4).
+ *
+ * In each step a pixel that is at least as large as each of its up to eight neighbours inside the picture does not rise, and
+ * one that is at most as large does not fall. Two pictures of equal sides that differ by at most d at each pixel still do after
+ * runs of one shape, step count and choice (S1.1 to S1.7).
+ * Refusals:
+ *   5  steps are not 1 to 64
+ *   6  the width or the height is not 1 to 1024
+ *   9  picture_len is not width x height: be it longer or shorter
+ *   11 the shape has no kernel with so many steps: |xy| is more than the smaller of xx and yy (so also where one of them is
+ *      negative), or the larger of them is more than 4096 x steps
+ */
+uint32_t vokhsaot_run_in_place_matrix_by(uint32_t choice, int32_t xx, int32_t xy, int32_t yy, uint32_t steps, uint32_t width,
+                                         uint32_t height, uint16_t *picture, size_t picture_len);
+
+/*
+ * Floats. A run of so many steps by a round shape and a choice, within one picture of width x height pixels; the covariance is
+ * the one that vokhsaot_covariance_round() writes. It starts from what the picture holds, and leaves the last step there:
+ * exactly the pixels of vokhsaot_run_round_by() in the picture that vokhsaot_shown() tells. Each step is rounded to the nearest
+ * whole number, halves upward (R1, R2). A refused run leaves the picture as it was, whole (S5.1 to S5.4).
+ *
+ * In each step a pixel that is at least as large as each of its up to eight neighbours inside the picture does not rise, and
+ * one that is at most as large does not fall. Two pictures of equal sides that differ by at most d at each pixel still do after
+ * runs of one shape, step count and choice (S1.1 to S1.7).
+ * Refusals:
+ *   3  variance is not a number or lies outside 0 to 64
+ *   5  steps are not 1 to 64
+ *   6  the width or the height is not 1 to 1024
+ *   9  picture_len is not width x height: be it longer or shorter
+ *   11 the shape has no kernel with so many steps: the variance, to the nearest 1/4096, is more than the steps
+ */
+uint32_t vokhsaot_run_in_place_round_by(uint32_t choice, double variance, uint32_t steps, uint32_t width, uint32_t height,
+                                        uint16_t *picture, size_t picture_len);
+
+/*
+ * Floats. A run of so many steps by an oval shape and a choice, within one picture of width x height pixels; the covariance is
+ * the one that vokhsaot_covariance_oval() writes. It starts from what the picture holds, and leaves the last step there:
+ * exactly the pixels of vokhsaot_run_oval_by() in the picture that vokhsaot_shown() tells. Each step is rounded to the nearest
+ * whole number, halves upward (R1, R2). A refused run leaves the picture as it was, whole (S5.1 to S5.4).
+ *
+ * In each step a pixel that is at least as large as each of its up to eight neighbours inside the picture does not rise, and
+ * one that is at most as large does not fall. Two pictures of equal sides that differ by at most d at each pixel still do after
+ * runs of one shape, step count and choice (S1.1 to S1.7).
+ * Refusals:
+ *   3  long_variance or short_variance is not a number or lies outside 0 to 64
+ *   4  cosine or sine is not a number or lies outside -1 to 1, or the sum of their squares, made in doubles, each operation
+ *      rounded once, lies outside 1023/1024 to 1025/1024
+ *   5  steps are not 1 to 64
+ *   6  the width or the height is not 1 to 1024
+ *   9  picture_len is not width x height: be it longer or shorter
+ *   11 the shape has no kernel with so many steps: of xx, xy and yy as vokhsaot_covariance_oval() writes them |xy| is more than
+ *      the smaller of xx and yy, or the larger of them is more than 4096 x steps
+ */
+uint32_t vokhsaot_run_in_place_oval_by(uint32_t choice, double long_variance, double short_variance, double cosine, double sine,
+                                       uint32_t steps, uint32_t width, uint32_t height, uint16_t *picture, size_t picture_len);
+
+/* Whole numbers. vokhsaot_run_in_place_matrix_by() by VOKHSAOT_BINOMIAL: leaves the same, has the same refusals 5, 6, 9, 11. */
+static inline uint32_t vokhsaot_run_in_place_matrix(int32_t xx, int32_t xy, int32_t yy, uint32_t steps, uint32_t width,
+                                                    uint32_t height, uint16_t *picture, size_t picture_len) {
+    return vokhsaot_run_in_place_matrix_by(VOKHSAOT_BINOMIAL, xx, xy, yy, steps, width, height, picture, picture_len);
+}
+
+/* Floats. vokhsaot_run_in_place_round_by() by VOKHSAOT_BINOMIAL: leaves the same, has the same refusals 3, 5, 6, 9, 11. */
+static inline uint32_t vokhsaot_run_in_place_round(double variance, uint32_t steps, uint32_t width, uint32_t height,
+                                                   uint16_t *picture, size_t picture_len) {
+    return vokhsaot_run_in_place_round_by(VOKHSAOT_BINOMIAL, variance, steps, width, height, picture, picture_len);
+}
+
+/* Floats. vokhsaot_run_in_place_oval_by() by VOKHSAOT_BINOMIAL: leaves the same, has the same refusals 3, 4, 5, 6, 9, 11. */
+static inline uint32_t vokhsaot_run_in_place_oval(double long_variance, double short_variance, double cosine, double sine,
+                                                  uint32_t steps, uint32_t width, uint32_t height, uint16_t *picture,
+                                                  size_t picture_len) {
+    return vokhsaot_run_in_place_oval_by(VOKHSAOT_BINOMIAL, long_variance, short_variance, cosine, sine, steps, width, height,
+                                         picture, picture_len);
+}
 
 /*
  * Whole numbers. The first difference in x, L(x+1, y) - L(x-1, y), undivided, of the picture L at each of its places: writes

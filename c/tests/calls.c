@@ -6,7 +6,7 @@
 #include <string.h>
 
 /* Limits, layout and version are numbers for the preprocessor too. */
-#if VOKHSAOT_VERSION_MAJOR != 0 || VOKHSAOT_VERSION_MINOR < 5 || VOKHSAOT_VERSION_PATCH < 0
+#if VOKHSAOT_VERSION_MAJOR != 0 || VOKHSAOT_VERSION_MINOR < 6 || VOKHSAOT_VERSION_PATCH < 0
 #error "the version"
 #endif
 #if VOKHSAOT_LARGEST_PIXEL != 65535 || VOKHSAOT_MOST_STEPS != 64 || VOKHSAOT_LONGEST_SIDE != 1024 \
@@ -156,6 +156,134 @@ static void refused_runs(void) {
         expect(vokhsaot_run_matrix_by(choice, 2048, 0, 2048, 1, 3, 3, a, 9, b, 8) == VOKHSAOT_WRONG_LENGTH, "a short picture");
     }
     expect(memcmp(a, picture, sizeof a) == 0 && memcmp(b, hollow, sizeof b) == 0, "a refusal changes nothing");
+}
+
+/* Case a's picture in the middle of others' pixels, for a run within it. */
+static uint16_t lent_one[11];
+
+static uint16_t *one_picture(void) {
+    lent_one[0] = lent_one[10] = 4711;
+    memcpy(lent_one + 1, picture, sizeof picture);
+    return lent_one + 1;
+}
+
+/* A run of one step within that picture that leaves the expected one there, and others' pixels as they are. */
+static void in_place_is(uint32_t code, const uint16_t *expected, const char *what) {
+    expect(code == 0 && memcmp(lent_one + 1, expected, sizeof picture) == 0, what);
+    expect(lent_one[0] == 4711 && lent_one[10] == 4711, "the pixels beside the picture");
+}
+
+static void runs_in_place(void) {
+    const uint32_t binomial = VOKHSAOT_BINOMIAL, smallest = VOKHSAOT_SMALLEST;
+
+    in_place_is(vokhsaot_run_in_place_matrix(2048, 0, 2048, 1, 3, 3, one_picture(), 9), filled, "a matrix without a choice");
+    in_place_is(vokhsaot_run_in_place_round(0.5, 1, 3, 3, one_picture(), 9), filled, "a round run without a choice");
+    in_place_is(vokhsaot_run_in_place_oval(0.5, 0.5, 1.0, 0.0, 1, 3, 3, one_picture(), 9), filled, "an oval run without a choice");
+
+    in_place_is(vokhsaot_run_in_place_matrix_by(binomial, 2048, 0, 2048, 1, 3, 3, one_picture(), 9), filled, "a matrix, binomial");
+    in_place_is(vokhsaot_run_in_place_round_by(binomial, 0.5, 1, 3, 3, one_picture(), 9), filled, "a round run, binomial");
+    in_place_is(vokhsaot_run_in_place_oval_by(binomial, 0.5, 0.5, 1.0, 0.0, 1, 3, 3, one_picture(), 9), filled,
+                "an oval, binomial");
+
+    in_place_is(vokhsaot_run_in_place_matrix_by(smallest, 2048, 0, 2048, 1, 3, 3, one_picture(), 9), hollow, "a matrix, smallest");
+    in_place_is(vokhsaot_run_in_place_round_by(smallest, 0.5, 1, 3, 3, one_picture(), 9), hollow, "a round run, smallest");
+    in_place_is(vokhsaot_run_in_place_oval_by(smallest, 0.5, 0.5, 1.0, 0.0, 1, 3, 3, one_picture(), 9), hollow,
+                "an oval, smallest");
+
+    in_place_is(vokhsaot_run_in_place_matrix_by(7, 2048, 0, 2048, 1, 3, 3, one_picture(), 9), filled,
+                "the choice 7 is none of its own");
+    in_place_is(vokhsaot_run_in_place_round_by(UINT32_MAX, 0.5, 1, 3, 3, one_picture(), 9), filled, "nor is the largest number");
+}
+
+/* Whether both runs, by one of the three forms of a shape, end with the same pixels. What they are lent begins with the same ones. */
+static int same_runs(int form, uint32_t choice, uint32_t steps, uint32_t width, uint32_t height, uint16_t *pictures[3]) {
+    const size_t pixels = (size_t)width * height;
+    uint16_t *first = pictures[0], *second = pictures[1], *one = pictures[2];
+    uint32_t between, within, shown = 0;
+
+    if (form == 0) {
+        between = vokhsaot_run_matrix_by(choice, 4000, -900, 2000, steps, width, height, first, pixels, second, pixels);
+        within = vokhsaot_run_in_place_matrix_by(choice, 4000, -900, 2000, steps, width, height, one, pixels);
+    } else if (form == 1) {
+        between = vokhsaot_run_round_by(choice, 0.7, steps, width, height, first, pixels, second, pixels);
+        within = vokhsaot_run_in_place_round_by(choice, 0.7, steps, width, height, one, pixels);
+    } else {
+        between = vokhsaot_run_oval_by(choice, 0.9, 0.4, 0.8, 0.6, steps, width, height, first, pixels, second, pixels);
+        within = vokhsaot_run_in_place_oval_by(choice, 0.9, 0.4, 0.8, 0.6, steps, width, height, one, pixels);
+    }
+    expect(between == 0 && within == 0 && vokhsaot_shown(steps, &shown) == 0, "both runs");
+    return memcmp(one, shown == 0 ? first : second, pixels * sizeof *one) == 0;
+}
+
+/*
+ * The pixels of the run between two pictures, at sides of one band and of several; the order of the arguments, by shapes that are no
+ * mirror images of themselves. The one picture has memory of its own, so that valgrind sees a pixel beside it read or written.
+ */
+static void one_picture_and_two(void) {
+    static const uint32_t sides[][2] = {{1, 1},    {1, 7},    {7, 1},   {2, 1024}, {1024, 1},
+                                        {1024, 2}, {1023, 3}, {33, 31}, {40, 60},  {513, 4}};
+    uint32_t state = 1;
+
+    for (size_t i = 0; i < sizeof sides / sizeof *sides; i++) {
+        const size_t pixels = (size_t)sides[i][0] * sides[i][1];
+        uint16_t *pictures[3];
+        for (int which = 0; which < 3; which++) {
+            pictures[which] = malloc(pixels * sizeof *pictures[which]);
+            expect(pictures[which] != NULL, "memory");
+        }
+        for (uint32_t run = 0; run < 24; run++) {
+            for (size_t place = 0; place < pixels; place++) {
+                state = state * 1664525u + 1013904223u;
+                pictures[0][place] = pictures[2][place] = (uint16_t)(state >> 16);
+            }
+            expect(same_runs((int)(run % 3), run / 3 % 2, 1 + run / 6, sides[i][0], sides[i][1], pictures), "one picture as two");
+        }
+        for (int which = 0; which < 3; which++) {
+            free(pictures[which]);
+        }
+    }
+}
+
+/* A run within one picture that is refused by this number leaves the picture as it was, and others' pixels too. */
+static void refused_in_place(uint32_t code, uint32_t refusal, const char *what) {
+    expect(code == refusal, what);
+    expect(memcmp(lent_one + 1, picture, sizeof picture) == 0, "a refusal changes nothing");
+    expect(lent_one[0] == 4711 && lent_one[10] == 4711, "the pixels beside the picture");
+}
+
+static void refused_runs_in_place(void) {
+    uint16_t *a = one_picture();
+
+    refused_in_place(vokhsaot_run_in_place_matrix(0, 1, 0, 1, 3, 3, a, 9), VOKHSAOT_NO_KERNEL, "no kernel");
+    refused_in_place(vokhsaot_run_in_place_round(0.5, 65, 3, 3, a, 9), VOKHSAOT_STEPS_OUT_OF_RANGE, "too many steps");
+    refused_in_place(vokhsaot_run_in_place_oval(0.5, 0.5, 1.0, 1.0, 1, 3, 3, a, 9), VOKHSAOT_NOT_A_DIRECTION, "no direction");
+    for (uint32_t choice = VOKHSAOT_BINOMIAL; choice <= VOKHSAOT_SMALLEST; choice++) {
+        /* each by itself, and then each with all that come after it: 3, 4, 5, 6, 9, 11 */
+        refused_in_place(vokhsaot_run_in_place_round_by(choice, -0.5, 1, 3, 3, a, 9),
+                         VOKHSAOT_VARIANCE_OUT_OF_RANGE, "no variance");
+        refused_in_place(vokhsaot_run_in_place_matrix_by(choice, 2048, 0, 2048, 0, 3, 3, a, 9),
+                         VOKHSAOT_STEPS_OUT_OF_RANGE, "no steps");
+        refused_in_place(vokhsaot_run_in_place_matrix_by(choice, 2048, 0, 2048, 1, 9, 1025, a, 9),
+                         VOKHSAOT_SIDE_OUT_OF_RANGE, "a long side");
+        refused_in_place(vokhsaot_run_in_place_matrix_by(choice, 2048, 0, 2048, 1, 0, 9, a, 0),
+                         VOKHSAOT_SIDE_OUT_OF_RANGE, "no side");
+        refused_in_place(vokhsaot_run_in_place_matrix_by(choice, 2048, 0, 2048, 1, 3, 3, a, 8),
+                         VOKHSAOT_WRONG_LENGTH, "a short picture");
+        refused_in_place(vokhsaot_run_in_place_matrix_by(choice, 2048, 0, 2048, 1, 2, 4, a, 9),
+                         VOKHSAOT_WRONG_LENGTH, "a long picture");
+        refused_in_place(vokhsaot_run_in_place_matrix_by(choice, 2048, 0, 2048, 1, 3, 3, a, 0), VOKHSAOT_WRONG_LENGTH, "no pixels");
+        refused_in_place(vokhsaot_run_in_place_oval_by(choice, 65.0, 0.5, 2.0, 0.0, 0, 0, 0, a, 8),
+                         VOKHSAOT_VARIANCE_OUT_OF_RANGE, "3 first");
+        refused_in_place(vokhsaot_run_in_place_oval_by(choice, 0.5, 0.5, 2.0, 0.0, 0, 0, 0, a, 8),
+                         VOKHSAOT_NOT_A_DIRECTION, "then 4");
+        refused_in_place(vokhsaot_run_in_place_oval_by(choice, 64.0, 0.5, 1.0, 0.0, 0, 0, 0, a, 8),
+                         VOKHSAOT_STEPS_OUT_OF_RANGE, "then 5");
+        refused_in_place(vokhsaot_run_in_place_oval_by(choice, 64.0, 0.5, 1.0, 0.0, 1, 0, 3, a, 8),
+                         VOKHSAOT_SIDE_OUT_OF_RANGE, "then 6");
+        refused_in_place(vokhsaot_run_in_place_oval_by(choice, 64.0, 0.5, 1.0, 0.0, 1, 3, 3, a, 8),
+                         VOKHSAOT_WRONG_LENGTH, "then 9");
+        refused_in_place(vokhsaot_run_in_place_oval_by(choice, 64.0, 0.5, 1.0, 0.0, 1, 3, 3, a, 9), VOKHSAOT_NO_KERNEL, "then 11");
+    }
 }
 
 /* One step by the weights of the kernel for so many steps, computed here, from one picture of 3 x 3 to another. */
@@ -799,6 +927,9 @@ int main(void) {
     refused_kernels();
     runs();
     refused_runs();
+    runs_in_place();
+    one_picture_and_two();
+    refused_runs_in_place();
     shown_pictures();
     differences();
     texts();

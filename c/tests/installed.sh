@@ -135,7 +135,7 @@ by_cmake() {
     local example kind
     cmake_finds "${version%.*}" "$work/built" || { cat "$work/out"; wrong "cmake does not find the package"; }
     cmake --build "$work/built" >"$work/out" 2>&1 || { cat "$work/out"; wrong "cmake does not build the examples"; }
-    for example in smooth_picture service change_over; do
+    for example in smooth_picture smooth_in_place service change_over; do
         for kind in static shared; do
             runs "$work/built/${example}_$kind" "$example"
         done
@@ -204,7 +204,7 @@ a_file_of_others
 install_and_move
 an_older_install
 remove_install
-for example in smooth_picture service change_over; do
+for example in smooth_picture smooth_in_place service change_over; do
     by_pkg_config "$root/target/dist" "$example"
     by_pkg_config "$prefix" "$example"
 done

@@ -37,7 +37,7 @@ for pair in "${compilers[@]}"; do
     as_c_plus_plus "$c_plus_plus" -Wold-style-cast -Wsign-conversion -fsyntax-only "$work/alone.c"
     linked as_c "$c" "$here/calls.c" "$work/calls"
     "$work/calls"
-    for name in smooth_picture service change_over; do
+    for name in smooth_picture smooth_in_place service change_over; do
         example as_c "$c" "$name"
         example as_c_plus_plus "$c_plus_plus" "$name"
     done
@@ -50,7 +50,7 @@ linked as_c gcc "$here/sentences.c" "$work/sentences"
 sed -n '/impl fmt::Display for Error/,/^}/p' "$root/rust/src/error.rs" | grep -o '"[^"]*\."' | tr -d '"' >"$work/sentences.rust.out"
 diff "$work/sentences.c.out" "$work/sentences.rust.out"
 
-for name in kernel_matrix kernel_round kernel_oval run_matrix run_round run_oval submit_matrix submit_round submit_oval; do
+for name in {kernel,run,run_in_place,submit}_{matrix,round,oval}; do
     echo "unsigned vokhsaot_$name(); int main(void) { return (int)vokhsaot_$name(); }" >"$work/old.c"
     if gcc -std=c11 "$work/old.c" "$library" -o "$work/old" 2>"$work/messages"; then
         echo "vokhsaot_$name is exported"

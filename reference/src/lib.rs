@@ -11,6 +11,7 @@
 //! - [`kernel`]: does a kernel exist, which f a choice takes, and the nine weights of the molecule.
 //! - [`shape`]: Matrix, Round and Oval to a covariance in 1/4096 square pixel.
 //! - [`smooth`]: the pixel at a place, a step, a run, the exact run and the distance from it.
+//! - [`in_place`]: a run within one picture, which keeps a row and a pixel beside it.
 //! - [`extrema`]: peaks that do not rise, pictures that stay as close as they were.
 //! - [`difference`]: the five undivided differences and the directional one.
 //! - [`service`]: eight slots over a buffer pool, served by round robin, by the old rules
@@ -27,6 +28,7 @@ pub mod difference;
 pub mod error_code;
 pub mod extrema;
 pub mod generate;
+pub mod in_place;
 pub mod job_text;
 pub mod kernel;
 pub mod lists;

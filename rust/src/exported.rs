@@ -148,6 +148,38 @@ extern "C" {
         second: *mut u16,
         second_len: usize,
     ) -> u32;
+    pub fn vokhsaot_run_in_place_matrix_by(
+        choice: u32,
+        xx: i32,
+        xy: i32,
+        yy: i32,
+        steps: u32,
+        width: u32,
+        height: u32,
+        picture: *mut u16,
+        picture_len: usize,
+    ) -> u32;
+    pub fn vokhsaot_run_in_place_round_by(
+        choice: u32,
+        variance: f64,
+        steps: u32,
+        width: u32,
+        height: u32,
+        picture: *mut u16,
+        picture_len: usize,
+    ) -> u32;
+    pub fn vokhsaot_run_in_place_oval_by(
+        choice: u32,
+        long_variance: f64,
+        short_variance: f64,
+        cosine: f64,
+        sine: f64,
+        steps: u32,
+        width: u32,
+        height: u32,
+        picture: *mut u16,
+        picture_len: usize,
+    ) -> u32;
     pub fn vokhsaot_shown(steps: u32, picture: *mut u32) -> u32;
     pub fn vokhsaot_first_x(
         pixels: *const u16,
@@ -277,6 +309,22 @@ mod tests {
         seconds
     }
 
+    /// What three runs within one picture leave in it, by the number of a choice.
+    fn pictures_in_place(choice: u32) -> [[u16; 9]; 3] {
+        let mut pictures = [BRIGHT; 3];
+        let [a, b, c] = pictures.each_mut().map(|pixels| pixels.as_mut_ptr());
+        // SAFETY: each pointer stands with the length of its own array.
+        let codes = unsafe {
+            [
+                vokhsaot_run_in_place_matrix_by(choice, 2048, 0, 2048, 1, 3, 3, a, 9),
+                vokhsaot_run_in_place_round_by(choice, 0.5, 1, 3, 3, b, 9),
+                vokhsaot_run_in_place_oval_by(choice, 0.5, 0.5, 1.0, 0.0, 1, 3, 3, c, 9),
+            ]
+        };
+        assert_eq!(codes, [0; 3]);
+        pictures
+    }
+
     /// 1 is the choice "smallest"; no other number is, nor is any refused.
     #[test]
     fn numbers_of_a_choice() {
@@ -287,6 +335,7 @@ mod tests {
             };
             assert_eq!(centres(choice), [centre; 3], "{choice}");
             assert_eq!(pictures(choice), [picture; 3], "{choice}");
+            assert_eq!(pictures_in_place(choice), [picture; 3], "{choice}");
         }
     }
 
@@ -331,9 +380,20 @@ mod tests {
                     vokhsaot_run_matrix_by(choice, 0, 1, 0, 64, 0, 2, a, 3, b, 3),
                     vokhsaot_run_matrix_by(choice, 0, 1, 0, 64, 2, 2, a, 4, b, 3),
                     vokhsaot_run_matrix_by(choice, 0, 1, 0, 64, 2, 2, a, 4, b, 4),
+                    vokhsaot_run_in_place_round_by(choice, f64::NAN, 0, 0, 0, a, 3),
+                    vokhsaot_run_in_place_oval_by(choice, 0.5, 0.5, 0.0, 0.0, 0, 0, 0, a, 3),
+                    vokhsaot_run_in_place_matrix_by(choice, 0, 1, 0, 65, 0, 0, a, 3),
+                    vokhsaot_run_in_place_matrix_by(choice, 0, 1, 0, 64, 0, 2, a, 3),
+                    vokhsaot_run_in_place_matrix_by(choice, 0, 1, 0, 64, 2, 2, a, 3),
+                    vokhsaot_run_in_place_matrix_by(choice, 0, 1, 0, 64, 2, 2, a, 4),
                 ]
             };
-            assert_eq!(codes, [3, 4, 5, 9, 11, 3, 4, 5, 6, 9, 11], "{choice}");
+            let expected = [
+                3, 4, 5, 9, 11, // kernels
+                3, 4, 5, 6, 9, 11, // runs between two pictures
+                3, 4, 5, 6, 9, 11, // within one
+            ];
+            assert_eq!(codes, expected, "{choice}");
             assert_eq!((numbers, first, second), ([7; 10], [8; 4], [9; 4]));
         }
     }

@@ -20,9 +20,26 @@
 //! # Ok::<(), vokhsaot::Error>(())
 //! ```
 //!
-//! [`run`] does the same between two lent pictures, of which [`shown`] has the last step. [`kernel`] gives a shape's weights,
-//! [`difference`] and [`directional`] the differences of a picture, and [`answer_text`] what the bench program prints.
-//! [`convert_j_to_n`] takes texts from the archives of before the choice over to those of today, and [`convert_n_to_j`] back.
+//! [`smooth_in_place`] does the same within a lent picture, for a board that holds one picture only: beside it there are two lines of
+//! 1024 pixels on the stack, and the pixels are the same. [`run`] goes to and fro between two lent pictures, of which [`shown`] has the
+//! last step and the other the step before it:
+//!
+//! ```
+//! use vokhsaot::{run, shown, smooth, smooth_in_place, Shape};
+//!
+//! let (shape, before) = (Shape::Round(1.0), [0, 0, 4800, 0, 0, 900]);
+//! let mut picture = before;
+//! smooth_in_place(shape, 3, 2, 3, &mut picture)?; // one picture: it is smoothed where it stands
+//! assert_eq!(picture, smooth(shape, 3, 2, 3, &before)?[..]); // the same in a new one
+//! let (mut first, mut second) = (before, [0; 6]);
+//! run(shape, 3, 2, 3, &mut first, &mut second)?; // two pictures: steps 2 and 3 are there
+//! assert_eq!(picture, shown(3, &first, &second)?);
+//! # Ok::<(), vokhsaot::Error>(())
+//! ```
+//!
+//! [`kernel`] gives a shape's weights, [`difference`] and [`directional`] the differences of a picture, and [`answer_text`] what the
+//! bench program prints. [`convert_j_to_n`] takes texts from the archives of before the choice over to those of today, and
+//! [`convert_n_to_j`] back.
 //!
 //! # Pictures
 //!
@@ -110,7 +127,8 @@ mod text;
 pub use error::Error;
 pub use limits::*;
 pub use picture::{
-    difference, directional, pixel, run, run_by, shown, smooth, smooth_by, Difference,
+    difference, directional, pixel, run, run_by, shown, smooth, smooth_by, smooth_in_place,
+    smooth_in_place_by, Difference,
 };
 pub use service::{Job, NotChangedOver, Service};
 pub use shape::{covariance, kernel, kernel_by, Choice, Covariance, Direction, Kernel, Shape};

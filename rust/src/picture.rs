@@ -53,7 +53,8 @@ pub fn pixel(pixels: &[u16], width: u32, height: u32, column: i32, row: i32) -> 
     Ok(found)
 }
 
-/// The picture after a run of `steps` steps, by [`Choice::Binomial`].
+/// The picture after a run of `steps` steps, by [`Choice::Binomial`]. The pixels that are given stay as they are: the run goes on
+/// between two pictures of its own. [`smooth_in_place`] does without these, and takes up to a quarter longer.
 ///
 /// # Errors
 /// 3, 4, 5, 6, 9 and 11, checked in this order; [`run_by`] says when each occurs.
@@ -92,9 +93,100 @@ pub fn smooth_by(
     with_last_step(steps, first, second)
 }
 
+/// Smooths a lent picture where it stands: a run of `steps` steps within one picture, by [`Choice::Binomial`]. Afterwards it holds the
+/// last step, exactly the pixels that [`run`] leaves in the picture that is [`shown`].
+///
+/// It needs no second picture: beside the lent one it keeps two lines of 1024 pixels on its stack, whatever the picture's size. Where
+/// the step before the last is wanted too, take [`run`]; where the picture as it was is wanted, or memory counts less than time, take [`smooth`].
+///
+/// # Errors
+/// 3, 4, 5, 6, 9 and 11, checked in this order; [`smooth_in_place_by`] says when each occurs. The picture then is as it was.
+///
+/// ```
+/// use vokhsaot::{smooth_in_place, Error, Shape};
+///
+/// let mut picture = [0, 0, 1600, 0, 0];
+/// let sideways = Shape::Matrix { xx: 4096, xy: 0, yy: 0 };
+/// smooth_in_place(sideways, 2, 5, 1, &mut picture)?;
+/// assert_eq!(picture, [100, 400, 600, 400, 100]);
+///
+/// // A refused call changes nothing: here the picture has not 4 pixels.
+/// assert_eq!(smooth_in_place(sideways, 2, 4, 1, &mut picture), Err(Error::WrongLength));
+/// assert_eq!(picture, [100, 400, 600, 400, 100]);
+/// # Ok::<(), Error>(())
+/// ```
+pub fn smooth_in_place(
+    shape: Shape,
+    steps: u32,
+    width: u32,
+    height: u32,
+    picture: &mut [u16],
+) -> Result<(), Error> {
+    smooth_in_place_by(Choice::default(), shape, steps, width, height, picture)
+}
+
+/// The run of [`smooth_in_place`] by the kernel of a choice.
+///
+/// # Errors
+/// In checking order, the same for each choice; the picture then is as it was:
+/// - 3, [`VarianceOutOfRange`](Error::VarianceOutOfRange): a variance of a round or an oval is not a number or lies outside 0 to 64.
+/// - 4, [`NotADirection`](Error::NotADirection): an oval's direction is none: a cosine or sine is not a number or lies outside −1 to 1,
+///   or the sum of their squares lies outside 1023/1024 to 1025/1024.
+/// - 5, [`StepsOutOfRange`](Error::StepsOutOfRange): the steps are not 1 to 64.
+/// - 6, [`SideOutOfRange`](Error::SideOutOfRange): the width or height is not 1 to 1024.
+/// - 9, [`WrongLength`](Error::WrongLength): the picture has not width × height pixels, be it more or fewer.
+/// - 11, [`NoKernel`](Error::NoKernel): the shape has no kernel with so many steps: |xy| is more than the smaller of xx and yy, or the
+///   larger of them is more than 4096 × steps.
+///
+/// ```
+/// use vokhsaot::{smooth_in_place_by, Choice, Shape};
+///
+/// let mut spot = [0, 0, 0, 0, 1600, 0, 0, 0, 0];
+/// smooth_in_place_by(Choice::Smallest, Shape::Round(0.5), 1, 3, 3, &mut spot).unwrap();
+/// assert_eq!(spot, [0, 400, 0, 400, 0, 400, 0, 400, 0]);
+/// ```
+pub fn smooth_in_place_by(
+    choice: Choice,
+    shape: Shape,
+    steps: u32,
+    width: u32,
+    height: u32,
+    picture: &mut [u16],
+) -> Result<(), Error> {
+    let choice = choice.number();
+    let (pixels, len) = (picture.as_mut_ptr(), picture.len());
+    // SAFETY: the pointer and the length are of one slice, which nobody else reads until the call returns.
+    outcome(unsafe {
+        match shape {
+            Shape::Matrix { xx, xy, yy } => exported::vokhsaot_run_in_place_matrix_by(
+                choice, xx, xy, yy, steps, width, height, pixels, len,
+            ),
+            Shape::Round(variance) => exported::vokhsaot_run_in_place_round_by(
+                choice, variance, steps, width, height, pixels, len,
+            ),
+            Shape::Oval {
+                long_variance,
+                short_variance,
+                direction: Direction { cosine, sine },
+            } => exported::vokhsaot_run_in_place_oval_by(
+                choice,
+                long_variance,
+                short_variance,
+                cosine,
+                sine,
+                steps,
+                width,
+                height,
+                pixels,
+                len,
+            ),
+        }
+    })
+}
+
 /// A run of `steps` steps between two lent pictures, starting in the first, by [`Choice::Binomial`]. What the second held does not
-/// count. Afterwards [`shown`] is the picture with the last step; the other holds the step before. [`smooth`] does the same without
-/// lent pictures.
+/// count. Afterwards [`shown`] is the picture with the last step; the other holds the step before. Where that is not wanted,
+/// [`smooth_in_place`] does the same within one picture, and [`smooth`] without a lent one.
 ///
 /// In each step a pixel that is at least as large as each of its up to eight neighbours inside the picture does not rise, and
 /// one that is at most as large does not fall; after the call the two pictures are the last step's, before and after it. Two

@@ -1,5 +1,5 @@
 #!/usr/bin/env python3
-"""Sixty-four faults, one at a time, in a copy of the independent program: the comparison has to find each.
+"""Eighty-eight faults, one at a time, in a copy of the independent program: the comparison has to find each.
 
 Usage: faults.py FOLDER, the folder that has libcapi.a. A fault counts as found where the test named beside it fails at a
 comparison, in one of the test files or in the sentences of demand 3; a fault that the copy finds in itself does not.
@@ -23,6 +23,16 @@ J_LENGTH = "    require(out.len() == text.len() + 2, BAD_LENGTH)?;\n"
 N_JOB = "    let job = parse(Format::N, text).ok_or(NOT_A_JOB)?;\n"
 N_CHOICE = "    require(job.choice == Choice::Smallest, CANNOT_GO_BACK)?;\n"
 N_LENGTH = "    require(out.len() + 2 == text.len(), BAD_LENGTH)?;\n"
+
+# A run within one picture: its checks in order and its steps; a step's rows, and the pixels that it has overwritten.
+COVARIANCE = "    let covariance = covariance(shape)?;\n"
+STEPS = "    check_steps(steps)?;\n"
+SIDES = "    check_sides(width, height)?;\n"
+LENGTH = "    check_length(picture.len(), width, height)?;\n"
+KERNEL = "    let kernel = kernel_by(choice, covariance, steps)?;\n"
+STEP = "        step_in_place(&kernel, picture, width, height);\n"
+ROWS = "        let rows = around(y, height);\n"
+OLD = "        self.saved[self.saved.len() - back]\n"
 
 # (what is wrong, file below reference/src, the text there, the text instead, the test that has to find it)
 FAULTS = [
@@ -147,6 +157,52 @@ FAULTS = [
      "    for (byte, new) in out.iter_mut().zip(print(Format::N, &job)) {\n        *byte = new;\n    }\n" + J_LENGTH, "texts"),
     ("the converter has written when it answers 1", "job_text.rs", N_JOB,
      "    for (byte, read) in out.iter_mut().zip(text) {\n        *byte = *read;\n    }\n" + N_JOB, "texts"),
+    # A run within one picture: which pixels a step reads there,
+    ("the row above is read after it was overwritten", "in_place.rs", OLD,
+     "        if back > 1 {\n            return self.picture[entry];\n        }\n" + OLD, "in_place"),
+    ("the pixel to the left is read after it was overwritten", "in_place.rs", OLD,
+     "        if back == 1 {\n            return self.picture[entry];\n        }\n" + OLD, "in_place"),
+    ("the pixel above to the left is not kept", "in_place.rs", OLD,
+     "        if back > 2 && back == self.saved.len() {\n            return self.picture[entry];\n        }\n" + OLD, "in_place"),
+    ("a band is put before the one below it is made", "in_place.rs", "u64::from(sweep.old(row * width + column))",
+     "u64::from(if row < y && y % (1024 / width) == 0 {\n                        sweep.picture[row * width + column]\n"
+     "                    } else {\n                        sweep.old(row * width + column)\n                    })", "in_place"),
+    ("the last column's right neighbour is the next row's first pixel", "in_place.rs", "            let columns = around(x, width);\n",
+     "            let mut columns = around(x, width);\n            if x + 1 == width && y + 2 < height {\n"
+     "                columns[2] += 1;\n            }\n", "in_place"),
+    ("the last row reads the one above it for the one below", "in_place.rs", ROWS,
+     "        let mut rows = around(y, height);\n        if y + 1 == height {\n            rows[2] = rows[0];\n        }\n", "in_place"),
+    ("width and height are exchanged", "in_place.rs", "step_in_place(&kernel, picture, width, height);",
+     "step_in_place(&kernel, picture, height, width);", "in_place"),
+    # where it puts them,
+    ("a picture of one row stays as it was", "in_place.rs", ROWS, "        if height == 1 {\n            break;\n        }\n" + ROWS, "in_place"),
+    ("the last row stays as it was where there are others", "in_place.rs", ROWS,
+     "        if height > 1 && y + 1 == height {\n            break;\n        }\n" + ROWS, "in_place"),
+    ("the last row of the largest picture stays as it was", "in_place.rs", ROWS,
+     "        if (y, width) == (1023, 1024) {\n            break;\n        }\n" + ROWS, "in_place"),
+    ("the bands after the first are put one place late", "in_place.rs", STEP,
+     STEP + "        let band = 1024 / width as usize * width as usize;\n        if band < picture.len() {\n"
+     "            picture[band..].rotate_right(1);\n        }\n", "in_place"),
+    # how often and by which kernel,
+    ("a step more is made within one picture", "in_place.rs", "for _ in 0..steps {", "for _ in 0..=steps {", "in_place"),
+    ("a step less is made of many", "in_place.rs", "for _ in 0..steps {", "for _ in steps / 64..steps {", "in_place"),
+    ("a run within one picture does not look at its choice", "in_place.rs", KERNEL, KERNEL.replace("choice,", "Choice::Binomial,"), "in_place"),
+    ("no choice is the smallest one within one picture", "in_place.rs", "Choice::default(),", "Choice::Smallest,", "in_place"),
+    # and what it refuses.
+    ("9 is answered for a longer picture only", "in_place.rs", LENGTH,
+     "    if picture.len() < width as usize * height as usize {\n        return Ok(());\n    }\n" + LENGTH, "in_place"),
+    ("of a longer picture the first pixels are smoothed", "in_place.rs", LENGTH,
+     "    let most = picture.len().min(width as usize * height as usize);\n    let picture = &mut picture[..most];\n" + LENGTH, "in_place"),
+    ("within one picture 11 is checked before 9", "in_place.rs", LENGTH + KERNEL, KERNEL + LENGTH, "in_place"),
+    ("within one picture 9 is checked before 6", "in_place.rs", SIDES + LENGTH, LENGTH + SIDES, "in_place"),
+    ("within one picture 6 is checked before 5", "in_place.rs", STEPS + SIDES, SIDES + STEPS, "in_place"),
+    ("within one picture 5 is checked before 3 and 4", "in_place.rs", COVARIANCE + STEPS, STEPS + COVARIANCE, "in_place"),
+    ("a picture that has no kernel is black when 11 is answered", "in_place.rs", KERNEL,
+     KERNEL.replace("?;", ".inspect_err(|_| picture.fill(0))?;"), "in_place"),
+    ("a pixel has changed when 9 is answered", "in_place.rs", LENGTH,
+     LENGTH.replace("?;", ".inspect_err(|_| picture.iter_mut().take(1).for_each(|pixel| *pixel ^= 1))?;"), "in_place"),
+    ("the picture is turned round when 6 is answered", "in_place.rs", SIDES, SIDES.replace("?;", ".inspect_err(|_| picture.reverse())?;"),
+     "in_place"),
 ]
 
 

@@ -26,9 +26,10 @@ any pixel differs.
 
 With a shape and --steps OTHER is also compared with a run of ONE: the largest
 distance from the exact run, which keeps fractions, is at most K/2, and every
-pixel is that of the library's run. What is not so is written in capitals; then,
-and only then, the exit status is 1. Where OTHER is the library's run by the other
-choice of f, that is told.",
+pixel is that of the library's run, here the one between two pictures (that of
+smooth works within one). What is not so is written in capitals; then, and only
+then, the exit status is 1. Where OTHER is the library's run by the other choice
+of f, that is told.",
     after_help = "\
 Examples:
   $ vokhsaot compare spot.pgm smooth.pgm
@@ -249,10 +250,11 @@ fn other_maker(work: Work, one: &Picture, other: &Picture) -> Result<Option<Choi
     Ok(is_made.then_some(choice))
 }
 
-/// What the library's run makes of a picture.
+/// What the library's run between two pictures makes of a picture: `smooth` has the one within one picture, so that each of the
+/// two judges the other.
 fn after(work: Work, picture: &Picture) -> Result<Picture, Failure> {
     let pixels = work
-        .smooth(picture.width, picture.height, &picture.pixels)
+        .run_of(picture.width, picture.height, &picture.pixels)
         .map_err(|refusal| explained(refusal, work))?;
     Ok(Picture { pixels, ..*picture })
 }

@@ -3,7 +3,8 @@
 use crate::error::Failure;
 use crate::numbers::{float, unsigned, whole};
 use vokhsaot::{
-    covariance, kernel_by, run_by, smooth_by, Choice, Covariance, Direction, Error, Kernel, Shape,
+    covariance, kernel_by, run_by, shown, smooth_in_place_by, Choice, Covariance, Direction, Error,
+    Kernel, Shape,
 };
 
 pub use vokhsaot::{MOST_STEPS, UNITS_PER_SQUARE_PIXEL as UNITS};
@@ -181,14 +182,21 @@ impl Work {
         run_by(choice, shape, steps, width, height, first, second)
     }
 
-    /// The picture after the library's run.
-    pub fn smooth(&self, width: u32, height: u32, pixels: &[u16]) -> Result<Vec<u16>, Error> {
+    /// The picture after the library's run between two pictures.
+    pub fn run_of(&self, width: u32, height: u32, pixels: &[u16]) -> Result<Vec<u16>, Error> {
+        let (mut first, mut second) = (pixels.to_vec(), vec![0; pixels.len()]);
+        self.run(width, height, &mut first, &mut second)?;
+        shown(self.steps, &first, &second).map(<[u16]>::to_vec)
+    }
+
+    /// The library's run within one picture.
+    pub fn run_in_place(&self, width: u32, height: u32, picture: &mut [u16]) -> Result<(), Error> {
         let Work {
             choice,
             shape,
             steps,
         } = *self;
-        smooth_by(choice, shape, steps, width, height, pixels)
+        smooth_in_place_by(choice, shape, steps, width, height, picture)
     }
 }
 

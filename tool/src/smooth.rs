@@ -5,7 +5,7 @@ use crate::files;
 use crate::kernel::{explained, fewest_with_centre, has_centre, held_difference};
 use crate::shape::{steps_text, RunOptions, Work, UNITS};
 use std::ffi::OsString;
-use vokhsaot::{shown, Choice, Kernel};
+use vokhsaot::{Choice, Kernel};
 
 /// Smooth a picture
 #[derive(clap::Args)]
@@ -13,7 +13,8 @@ use vokhsaot::{shown, Choice, Kernel};
     before_help = "\
 Smooths a PGM or PNG picture in K steps and writes it with the same maxval. Its
 sides are 1 to 1024. Without names the picture comes from standard input and goes
-to standard output, as with netpbm; so does a file named -.
+to standard output, as with netpbm; so does a file named -. The run works within
+that one picture; compare makes the one between two, which has the same pixels.
 
 Warns where no pixel changed, where rounding held many (each step rounds to whole
 units, so many steps keep small differences) and where the kernel has no weight at
@@ -40,22 +41,20 @@ pub struct Options {
 
 pub fn command(options: &Options) -> Result<Outcome, Failure> {
     let work = options.run.read("smooth")?;
-    let steps = work.steps;
     let mut picture = files::read_picture(&options.input)?;
-    let mut first = picture.pixels.clone();
-    let mut second = vec![0; first.len()];
     let (width, height) = (picture.width, picture.height);
-    work.run(width, height, &mut first, &mut second)
-        .map_err(|refusal| explained(refusal, work))?;
+    // The run needs no second picture. The warnings do: they are about what it changed.
+    let before = (!options.quiet).then(|| picture.pixels.clone());
     // An average is at most the largest pixel, so the maxval still holds.
-    let after = shown(steps, &first, &second)?.to_vec();
-    let before = std::mem::replace(&mut picture.pixels, after);
+    work.run_in_place(width, height, &mut picture.pixels)
+        .map_err(|refusal| explained(refusal, work))?;
     files::write_picture(&options.output, &picture)?;
-    if options.quiet {
+    let Some(before) = before else {
         return Ok(Outcome::Good);
-    }
+    };
     if options.run.is_auto() {
-        say(&format!("{}, the fewest with a kernel", steps_text(steps)));
+        let steps = steps_text(work.steps);
+        say(&format!("{steps}, the fewest with a kernel"));
     }
     let seen = Seen {
         work,
@@ -63,7 +62,6 @@ pub fn command(options: &Options) -> Result<Outcome, Failure> {
         width: width as usize,
         maxval: picture.maxval,
         before: &before,
-        next_to_last: shown(steps, &second, &first)?,
         after: &picture.pixels,
     };
     for warning in seen.warnings() {
@@ -89,8 +87,6 @@ struct Seen<'a> {
     width: usize,
     maxval: u16,
     before: &'a [u16],
-    /// The picture one step before the last.
-    next_to_last: &'a [u16],
     after: &'a [u16],
 }
 
@@ -114,14 +110,15 @@ impl Seen<'_> {
         about_pixels.into_iter().chain(hollow).collect()
     }
 
-    /// Why a picture is the same after the run. Where it was the same one step before, each single step keeps it.
+    /// Why a picture is the same after the run. Where the first step keeps it, each one does: that is where it rounds back every
+    /// pixel that an exact step would change.
     fn why_unchanged(&self) -> String {
         let found = self.held();
         if self.kernel.weight(0, 0) == self.kernel.sum {
             "the covariance is 0".to_owned()
         } else if found.uneven == 0 {
             "each already is the average of itself and its neighbours".to_owned()
-        } else if self.next_to_last != self.before {
+        } else if found.held < found.uneven {
             "the steps changed some, and brought each of them back".to_owned()
         } else {
             let count = found.uneven;

@@ -6,6 +6,7 @@ ghost use Rattle.limits.specs.Errors.{outcomeNumber, valueOr, heldAfter};
 ghost use Rattle.image.specs.Reading.{readingOf, readingNumber, readingValues};
 ghost use Rattle.kernel.specs.Choice.{choiceOf};
 ghost use Rattle.smoothing.specs.Runs.{runOf};
+ghost use Rattle.smoothing.specs.InPlace.{inPlaceOutcome, inPlaceAfter};
 ghost use Rattle.picture_calls.specs.Pictures.{kernelCount, kernelWords, covarianceCode, covarianceAfter, kernelCode, kernelAfter, shownCode, shownPictureAfter, differenceCode, differenceAfter, directionalCode, directionalAfter};
 use covariance::Covariance;
 use covariance::Direction;
@@ -115,6 +116,23 @@ pub fn run(
 {
     let by = kernel::choice_of(choice);
     let outcome = smoothing::run_by(by, shape, steps, width, height, first, second);
+    limits::outcome_number(outcome)
+}
+
+// A run of so many steps within one picture, by the choice that a number names: the picture then holds the last step.
+pub fn run_in_place(
+    choice: u32,
+    shape: Shape,
+    steps: u32,
+    width: u32,
+    height: u32,
+    picture: &mut [u16],
+) -> u32
+    ensures { λ r. ⌜ r ≡ outcomeNumber (inPlaceOutcome shape steps width height (now (picture .entry))) ⌝ }
+    ensures { λ _. ⌜ now (picture .exit) ≡ inPlaceAfter (choiceOf choice) shape steps width height (now (picture .entry)) ⌝ }
+{
+    let chosen = kernel::choice_of(choice);
+    let outcome = smoothing::run_in_place_by(chosen, shape, steps, width, height, picture);
     limits::outcome_number(outcome)
 }
 

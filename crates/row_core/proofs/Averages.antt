@@ -1,8 +1,8 @@
 -- Coefficients stand for a kernel, and what is made with them fits its type and is the kernel's average. Assumes nothing.
 use mathlib.Core.Path.{_≡_, sym, ap, ap₂, subst, _∙_}
 use mathlib.Core.List.{List, [], _∷_}
-use Prim.Native.Nat.{ℕ, zero, suc, _+_, _*_, _/_, _≤_, _<_}
-use native.Mathlib.Nat.{le-refl}
+use Prim.Native.Nat.{ℕ, zero, suc, _+_, _*_, _/_, _%_, _≤_, _<_}
+use native.Mathlib.Nat.{le-refl, div-div-eq-div-mul}
 use native.Mathlib.Omega.{arith}
 use lib.ListN.{length, getD}
 use lib.Seq.{ext-getD}
@@ -13,9 +13,11 @@ use Rattle.kernel.specs.Sound.{Sound}
 use Rattle.kernel.specs.declared.Kernel.{Kernel}
 use Rattle.image.specs.Image.{entries}
 use Rattle.averaging.proofs.Images.{length-entries, entry}
+use Rattle.averaging.specs.Steps.{nearest}
 use Rattle.averaging.proofs.Averages.{average-at-most}
 use Rattle.row_core.specs.Prepared.{reciprocalOne, reciprocalOf, kernelOfCoefficients, Prepared, StandsFor, ProductsOf}
 use Rattle.row_core.specs.Rows.{doubled, pixelIn, Doubled}
+use Rattle.row_core.specs.Stretches.{Pixels}
 use Rattle.row_core.specs.declared.Coefficients.{Coefficients}
 use Rattle.row_core.specs.declared.Products.{Products}
 use Rattle.row_core.specs.declared.Column.{Column}
@@ -34,13 +36,50 @@ module _ (c : Coefficients) (prepared : Prepared c) (total : ℕ) (most : total 
       rw (prepared .reciprocal, divided (prepared .steps) (prepared .sound .low) (prepared .sound .high) total bound)
       (divided-below (prepared .steps) (prepared .sound .low) (prepared .sound .high) total bound)
 
--- ---- the sum of weight times what lines hold, of three columns
+-- ---- the same to the nearest: the quotient is that of twice the total and the sum
+module _ (c : Coefficients) (prepared : Prepared c) (total : ℕ) (most : total ≤ kernelOfCoefficients c .sum * largestPixel) where
+  abbrev sum : ℕ
+  sum = kernelOfCoefficients c .sum
+
+  twice-most : 2 * total + sum ≤ sum * doubled largestPixel
+  twice-most = omega (arith, most)
+
+  pub quotient : (total + c .half) / (sumOf 1 / 2) ≡ (2 * total + sum) / sumOf 1
+  quotient = omega (arith, prepared .half, prepared .sound .sum)
+
+  pub to-nearest : ((total + c .half) / (sumOf 1 / 2)) * c .reciprocal / reciprocalOne ≡ nearest total (kernelOfCoefficients c .sum)
+  to-nearest =
+      let half : (2 * total + sum) / 2 ≡ total + sum / 2 = omega arith in
+      rw quotient (exact c prepared (2 * total + sum) twice-most)
+      ∙ sym (div-div-eq-div-mul (2 * total + sum) 2 sum) ∙ ap (λ (t : ℕ). t / sum) half
+
+  pub nearest-pixel : ((total + c .half) / (sumOf 1 / 2)) * c .reciprocal / reciprocalOne < largestPixel + 1
+  nearest-pixel = rw quotient (pixel c prepared (2 * total + sum) twice-most)
+
+-- ---- the sum of weight times what three columns hold, where that is at most b
+abbrev AtMost : ℕ → Column → Type 0
+AtMost b c = (c .above ≤ b) × (c .at ≤ b) × (c .below ≤ b)
+
+most-of : (c : Coefficients) → Prepared c → (b : ℕ) (l m r : Column) → AtMost b l → AtMost b m → AtMost b r
+    → weighted (pixelIn l m r) (kernelOfCoefficients c .weights) ≤ kernelOfCoefficients c .sum * b
+most-of c prepared b l m r pl pm pr =
+    subst (λ (t : ℕ). weighted (pixelIn l m r) (kernelOfCoefficients c .weights) ≤ t * b) (prepared .sound .whole ∙ sym (prepared .sound .sum))
+    (average-at-most (pixelIn l m r) b (kernelOfCoefficients c .weights)
+    (pl .0, (pm .0, (pr .0, (pl .1, (pm .1, (pr .1, (pl .2, (pm .2, (pr .2, tt))))))))))
+
 pub most-weighted : (c : Coefficients) → Prepared c → (l m r : Column) → Doubled l → Doubled m → Doubled r
     → weighted (pixelIn l m r) (kernelOfCoefficients c .weights) ≤ kernelOfCoefficients c .sum * doubled largestPixel
 most-weighted c prepared l m r pl pm pr =
-    subst (λ (t : ℕ). weighted (pixelIn l m r) (kernelOfCoefficients c .weights) ≤ t * doubled largestPixel) (prepared .sound .whole ∙ sym (prepared .sound .sum))
-    (average-at-most (pixelIn l m r) (doubled largestPixel) (kernelOfCoefficients c .weights)
-    (pl .above, (pm .above, (pr .above, (pl .at, (pm .at, (pr .at, (pl .below, (pm .below, (pr .below, tt))))))))))
+    most-of c prepared (doubled largestPixel) l m r (pl .above, pl .at, pl .below) (pm .above, pm .at, pm .below) (pr .above, pr .at, pr .below)
+
+pub most-pixels : (c : Coefficients) → Prepared c → (l m r : Column) → Pixels l → Pixels m → Pixels r
+    → weighted (pixelIn l m r) (kernelOfCoefficients c .weights) ≤ kernelOfCoefficients c .sum * largestPixel
+most-pixels c prepared l m r pl pm pr =
+    most-of c prepared largestPixel l m r (pl .above, pl .at, pl .below) (pm .above, pm .at, pm .below) (pr .above, pr .at, pr .below)
+
+-- a pixel is below what a line holds for the largest one
+pub as-doubled : (c : Column) → Pixels c → Doubled c
+as-doubled c p = record { above = omega (arith, p .above); at = omega (arith, p .at); below = omega (arith, p .below) }
 
 -- ---- the same sum by products
 
@@ -102,12 +141,19 @@ module _ (kernel : Kernel) (k : ℕ) (sound : Sound kernel k) where
   pub stands : (c : Coefficients)
       → c .diagonal ≡ getD (kernel .weights) 0 0 → c .down ≡ getD (kernel .weights) 1 0 → c .across ≡ getD (kernel .weights) 2 0
       → c .along ≡ getD (kernel .weights) 3 0 → c .centre ≡ getD (kernel .weights) 4 0
-      → c .reciprocal ≡ reciprocalOf (kernel .sum / sumOf 1 * 2) → StandsFor kernel c
-  stands c diagonal down across along centre reciprocal =
+      → c .reciprocal ≡ reciprocalOf (kernel .sum / sumOf 1 * 2) → c .half ≡ kernel .sum / 2 → c .rest ≡ kernel .sum % sumOf 1 → StandsFor kernel c
+  stands c diagonal down across along centre reciprocal half rest =
       let weights : kernelOfCoefficients c .weights ≡ kernel .weights
       = rw (diagonal, down, across, along, centre) (sym (nine (kernel .weights) (sound .nine) ∙ rw (sound .diagonal, sound .down, sound .across, sound .along))) in
       let is : kernelOfCoefficients c ≡ kernel = ap₂ (λ ws s. record { weights = ws; sum = s }) weights (omega (arith, ap total weights, sound .whole, sound .sum)) in
       record {
         is = is;
-        prepared = record { steps = k; sound = subst (λ (n : Kernel). Sound n k) (sym is) sound; reciprocal = reciprocal ∙ ap reciprocalOf (omega (arith, steps-are)) };
+        prepared =
+            record {
+              steps = k;
+              sound = subst (λ (n : Kernel). Sound n k) (sym is) sound;
+              reciprocal = reciprocal ∙ ap reciprocalOf (omega (arith, steps-are));
+              half = half ∙ ap (λ (n : Kernel). n .sum / 2) (sym is);
+              none-left = omega (arith, rest, sound .sum);
+            };
       }

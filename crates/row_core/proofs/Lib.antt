@@ -2,4 +2,5 @@
 pub mod Division
 pub mod Averages
 pub mod Pixels
+pub mod Parts
 pub mod Rows

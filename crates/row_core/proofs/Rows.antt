@@ -2,33 +2,28 @@
 -- makes from these are those of the step. Assumes nothing.
 use mathlib.Core.Path.{_≡_, refl, sym, ap, ap₂, _∙_}
 use mathlib.Core.List.{List, [], _∷_, _++_}
-use Prim.Native.Nat.{ℕ, zero, suc, _+_, _-_, _*_, _/_, _≤_, _<_, min}
+use Prim.Native.Nat.{ℕ, _+_, _-_, _*_, _/_, _≤_, _<_, min}
 use native.Mathlib.Nat.{suc-mul, mul-le-mul-right, div-div-eq-div-mul}
 use native.Mathlib.Omega.{arith}
-use lib.ListN.{length, getD, drop, length-drop}
-use lib.Seq.{length-take-le, getD-take, getD-drop}
+use lib.ListN.{length, getD, drop}
+use lib.Seq.{getD-take, getD-drop, ext-getD}
 use lib.IntN.{ℤ, pos, negsuc, _+ℤ_}
 use Rattle.kernel.specs.Offsets.{Offset, offsets, sumOver, weighted}
 use Rattle.kernel.specs.Sound.{Sound}
 use Rattle.kernel.specs.declared.Kernel.{Kernel}
-use Rattle.image.specs.Image.{nearestPlace, beside, pixelAt, entries, rows}
+use Rattle.image.specs.Image.{nearestPlace, beside, pixelAt, entries, imageOf}
 use Rattle.averaging.specs.Steps.{nearest, weightedAt, stepOf}
 use Rattle.averaging.proofs.Averages.{Each}
-use Rattle.averaging.proofs.Images.{nearest-lt, place-before, length-entries, entry, same-entries}
+use Rattle.averaging.proofs.Images.{nearest-lt, place-before, length-entries, entry, same-entries, length-image, image-entry}
+use Rattle.row_core.proofs.Parts.{length-part, part-at}
 use Rattle.row_core.specs.Rows.{part, doubled, paddedOf, columnOf, pixelIn, rowOf}
+use Rattle.row_core.specs.Stretches.{columnIn, averageOf}
+use Rattle.row_core.specs.declared.Starts.{Starts}
 
--- ---- parts of a list
-
--- a part of n elements has n of them
-pub length-part : (i n : ℕ) (l : List ℕ) → i + n ≤ length l → length (part i n l) ≡ n
-length-part i n l h = length-take-le n (drop i l) (rw length-drop (omega arith))
-
--- ---- rows
--- rows that agree below n
-same-rows : (n : ℕ) (f g : ℕ → List ℕ) → ((y : ℕ) → y < n → f y ≡ g y) → rows n f ≡ rows n g
-unfolding rows
-same-rows zero f g same = refl
-same-rows (suc n) f g same = ap₂ _++_ (same-rows n f g (λ y l. same y (omega arith))) (same n (omega arith))
+-- a step has as many pixels
+pub length-step : (k : Kernel) (w h : ℕ) (pixels : List ℕ) → length (stepOf k w h pixels) ≡ w * h
+unfolding stepOf
+length-step k w h pixels = length-image w h _
 
 -- ---- averages of the same values are the same
 same-over : (p q : Offset → ℕ) (ds : List Offset) (ws : List ℕ) → Each (λ d. p d ≡ q d) ds
@@ -79,6 +74,28 @@ in-image w h pixels y a b c some ea eb ec ws x =
         let i = nearestPlace w (pos x +ℤ dx) in
         let j = nearestPlace h (pos y +ℤ dy) * w in
         sym (getD-take w (drop j pixels) i 0 (nearest-lt w (pos x +ℤ dx) some) ∙ getD-drop j pixels i 0) ∙ ap (λ l. getD l i 0) e
+
+-- in an image as it stands, where three rows begin at v and s places on is the beginning of row y of its columns
+pub pixel-from : (k : Kernel) (w h : ℕ) (pixels : List ℕ) (v : Starts) (s x y l r : ℕ) → x < w → y < h
+    → v .above + s ≡ min (y - 1) (h - 1) * w → v .at + s ≡ y * w → v .below + s ≡ min (y + 1) (h - 1) * w
+    → l ≡ min (x - 1) (w - 1) → r ≡ min (x + 1) (w - 1)
+    → averageOf k (columnIn pixels v (s + l)) (columnIn pixels v (s + x)) (columnIn pixels v (s + r)) ≡ getD (stepOf k w h pixels) (y * w + x) 0
+unfolding stepOf weightedAt pixelAt
+pixel-from k w h pixels v s x y l r lx ly above at below left right =
+    let row : (i : ℕ) (dy : ℤ) (n : ℕ) → i + s ≡ n * w → nearestPlace h (pos y +ℤ dy) ≡ n → (c : ℕ) (dx : ℤ) → nearestPlace w (pos x +ℤ dx) ≡ c
+    → pixelAt w h pixels (pos x +ℤ dx) (pos y +ℤ dy) ≡ getD pixels (i + (s + c)) 0
+    = λ i dy n start near c dx e. ap (λ (j : ℕ). getD pixels j 0) (ap₂ (λ (a b : ℕ). a * w + b) near e ∙ omega (arith, start)) in
+    let up = row (v .above) (negsuc 0) (min (y - 1) (h - 1)) above (place-before h y) in
+    let here = row (v .at) (pos 0) y at (omega arith) in
+    let down = row (v .below) (pos 1) (min (y + 1) (h - 1)) below refl in
+    let before = place-before w x ∙ sym left in
+    let same : nearestPlace w (pos x +ℤ pos 0) ≡ x = omega arith in
+    let after = sym right in
+    sym
+    (image-entry w h (λ x y. nearest (weightedAt (k .weights) w h pixels x y) (k .sum)) 0 x y lx ly
+    ∙ ap (λ t. nearest t (k .sum)) (same-average (λ d. pixelAt w h pixels (pos x +ℤ d .dx) (pos y +ℤ d .dy))
+    (pixelIn (columnIn pixels v (s + l)) (columnIn pixels v (s + x)) (columnIn pixels v (s + r))) (k .weights)
+    (up l (negsuc 0) before, (up x (pos 0) same, (up r (pos 1) after, (here l (negsuc 0) before, (here x (pos 0) same, (here r (pos 1) after, (down l (negsuc 0) before, (down x (pos 0) same, (down r (pos 1) after, tt)))))))))))
 
 -- in the padded rows, where they are the three columns from x on
 in-lines : (w : ℕ) (a b c : List ℕ) → length a ≡ w → length b ≡ w → length c ≡ w → (ws : List ℕ) (x : ℕ) → x < w
@@ -150,6 +167,12 @@ module _ (k : Kernel) (n : ℕ) (sound : Sound k n) (w h : ℕ) (pixels : List �
       ∙ sym (rounded k n sound (aroundColumn w a b c x))
       ∙ ap (λ s. s / (2 * k .sum)) (sym (in-lines w a b c (long (y - 1) (omega arith)) (long y l) (long (min (y + 1) (h - 1)) (omega arith)) (k .weights) x lx)))
 
-  pub by-lines : rows h (lineOf k w h pixels) ≡ stepOf k w h pixels
+  -- which is row y of the next image
+  pub line-part : (y : ℕ) → y < h → lineOf k w h pixels y ≡ part (y * w) w (stepOf k w h pixels)
   unfolding stepOf
-  by-lines = sym (same-rows h (λ y. entries w (λ x. nearest (weightedAt (k .weights) w h pixels x y) (k .sum))) (lineOf k w h pixels) line)
+  line-part y l =
+      let f : ℕ → ℕ → ℕ = λ x y. nearest (weightedAt (k .weights) w h pixels x y) (k .sum) in
+      let long : length (part (y * w) w (imageOf w h f)) ≡ w = length-part (y * w) w (imageOf w h f) (omega (arith, row-inside w h y l, length-image w h f)) in
+      sym (line y l)
+      ∙ sym (ext-getD 0 (part (y * w) w (imageOf w h f)) (entries w (λ x. f x y)) (long ∙ sym (length-entries w (λ x. f x y)))
+      (λ x lx. let inside : x < w = omega (arith, lx, long) in part-at (y * w) w (imageOf w h f) x inside ∙ image-entry w h f 0 x y inside l ∙ sym (entry w (λ x. f x y) 0 x inside)))

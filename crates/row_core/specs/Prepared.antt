@@ -32,11 +32,13 @@ kernelOfCoefficients c =
       sum = 2 * (c .diagonal + c .down + c .across + c .along) + c .centre;
     }
 
--- they stand for a kernel of some step count, and the reciprocal is that of twice the step count
+-- they stand for a kernel of some step count, the reciprocal is that of twice the step count, and nothing is left over
 pub record Prepared (c : Coefficients) : Type 0 where
   pub steps : ℕ
   pub sound : Sound (kernelOfCoefficients c) steps
   pub reciprocal : c .reciprocal ≡ reciprocalOf (2 * steps)
+  pub half : c .half ≡ kernelOfCoefficients c .sum / 2
+  pub none-left : c .rest ≡ 0
 
 pub record StandsFor (kernel : Kernel) (c : Coefficients) : Type 0 where
   pub is : kernelOfCoefficients c ≡ kernel

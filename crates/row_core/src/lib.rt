@@ -6,6 +6,9 @@
 // multiplies several at a time. A line holds twice each pixel and one more: the sum of weight times such numbers is then twice
 // that of weight times pixel, and the sum of the weights, half of which rounds to the nearest, halves up. So nothing is added
 // for rounding. The sum is divided by 8 × M, which is 16384 × (2 × steps), by a shift and one more multiplication.
+//
+// Where there is no room for such lines, pixels are read as they stand (`smooth_stretch`): those of a stretch of an image that has
+// a pixel more on both sides in each of the three rows. Rounding is then added to the first quotient.
 ghost use mathlib.Core.Path.{_≡_};
 ghost use Prim.Native.Nat.{_+_, _*_, _/_, _^_, _≤_, _<_};
 ghost use lib.ListN.{length};
@@ -13,6 +16,8 @@ ghost use Rattle.limits.specs.Limits.{largestPixel};
 ghost use Rattle.kernel.specs.Offsets.{weighted};
 ghost use Rattle.row_core.specs.Prepared.{StepKernel, kernelOfCoefficients, Prepared, StandsFor, Counts, ProductsOf};
 ghost use Rattle.row_core.specs.Rows.{doubled, Doubled, Lines, columnOf, pixelIn, paddedOf, rowOf};
+ghost use Rattle.averaging.specs.Steps.{nearest};
+ghost use Rattle.row_core.specs.Stretches.{columnIn, Pixels, Long, Inside, averageOf, stretchOf};
 use kernel::Kernel;
 
 // The sum of a kernel's weights, for each of its steps.
@@ -32,6 +37,11 @@ pub struct Coefficients {
     pub centre: u32,
     // RECIPROCAL_ONE over twice the step count, upward.
     pub reciprocal: u32,
+    // Half the sum of the weights, for rounding.
+    pub half: u64,
+    // What the sum of the weights leaves over whole steps, which is 0. The compiler does not know that: it adds pixels that it was added
+    // to as numbers of 32 bits, four at a time, and would widen each of them to 64 bits before it adds them otherwise.
+    pub rest: u32,
 }
 
 // The same weights, by the products that a pixel is made of. Pairs of pixels that weigh the same are added first and multiplied
@@ -67,6 +77,7 @@ pub fn coefficients_of(kernel: Kernel) -> Coefficients
     let steps = kernel.sum / SUM_PER_STEP;
     let halves = steps * 2;
     let reciprocal = ((RECIPROCAL_ONE + (halves - 1)) / halves) as u32;
+    let rest = (kernel.sum % SUM_PER_STEP) as u32;
     let diagonal = kernel.weights[0] as u32;
     let down = kernel.weights[1] as u32;
     let across = kernel.weights[2] as u32;
@@ -79,6 +90,8 @@ pub fn coefficients_of(kernel: Kernel) -> Coefficients
         along,
         centre,
         reciprocal,
+        half: kernel.sum / 2,
+        rest,
     }
 }
 
@@ -379,6 +392,24 @@ fn side_sum(products: Products, left: Column, here: Column, right: Column) -> u6
     down + along + sides
 }
 
+// What weight times pixel sums to, around the middle of three columns: pixels, or what lines hold for them.
+fn product_sum(
+    coefficients: Coefficients,
+    products: Products,
+    left: Column,
+    here: Column,
+    right: Column,
+) -> u64
+    requires { ⌜ ProductsOf coefficients products ⌝ }
+    requires { ⌜ Doubled left × Doubled here × Doubled right ⌝ }
+    ensures { λ r. ⌜ r ≡ weighted (pixelIn left here right) (kernelOfCoefficients coefficients .weights) ⌝ }
+{
+    let corners = corner_sum(products, left, right);
+    let sides = side_sum(products, left, here, right);
+    let centre = weigh(products.centre, here.at, 0);
+    corners + sides + centre
+}
+
 // One pixel of the next image, from its column and those on its left and right.
 fn average(
     coefficients: Coefficients,
@@ -391,10 +422,10 @@ fn average(
     requires { ⌜ Doubled left × Doubled here × Doubled right ⌝ }
     ensures { λ r. ⌜ r ≡ weighted (pixelIn left here right) (kernelOfCoefficients coefficients .weights) / (2 * kernelOfCoefficients coefficients .sum) ⌝ }
 {
-    let corners = corner_sum(products, left, right);
-    let sides = side_sum(products, left, here, right);
-    let centre = weigh(products.centre, here.at, 0);
-    divide(corners + sides + centre, coefficients)
+    divide(
+        product_sum(coefficients, products, left, here, right),
+        coefficients,
+    )
 }
 
 // The row core: one row of the next image from three lines, which have a pixel more on both sides.
@@ -418,4 +449,123 @@ pub fn smooth_row(
         out[x] = average(coefficients, products, left, here, right);
         x += 1;
     }
+}
+
+// ---- pixels as they stand
+
+// Where three rows of pixels begin in an image: those above, at and below the pixels that are made.
+pub struct Starts {
+    pub above: usize,
+    pub at: usize,
+    pub below: usize,
+}
+
+// A pixel, where nothing is left over.
+fn standing(pixel: u16, rest: u32) -> u32
+    requires { ⌜ rest ≡ 0 ⌝ }
+    ensures { λ r. ⌜ (r ≡ pixel) × (r ≤ largestPixel) ⌝ }
+{
+    pixel as u32 + rest
+}
+
+fn column_in(source: &[u16], starts: Starts, x: usize, rest: u32) -> Column
+    requires { ⌜ Inside (length (now source)) starts (x + 1) × (rest ≡ 0) ⌝ }
+    ensures { λ r. ⌜ r ≡ columnIn (now (source .entry)) starts x ⌝ }
+    ensures { λ r. ⌜ Pixels r ⌝ }
+{
+    Column {
+        above: standing(source[starts.above + x], rest),
+        at: standing(source[starts.at + x], rest),
+        below: standing(source[starts.below + x], rest),
+    }
+}
+
+// A sum of weight times pixel, over the sum of the weights, to the nearest unit, halves up: half the sum is the step count, once
+// the sum is divided by half of what a step has.
+fn divide_to_nearest(total: u64, coefficients: Coefficients) -> u16
+    requires { ⌜ Prepared coefficients ⌝ }
+    requires { ⌜ total ≤ kernelOfCoefficients coefficients .sum * largestPixel ⌝ }
+    ensures { λ r. ⌜ r ≡ nearest total (kernelOfCoefficients coefficients .sum) ⌝ }
+{
+    let quotient = ((total + coefficients.half) / (SUM_PER_STEP / 2)) as u32;
+    ((quotient as u64) * (coefficients.reciprocal as u64) / RECIPROCAL_ONE) as u16
+}
+
+// One pixel of the next image, from its column and those on its left and right as they stand.
+fn average_of_pixels(
+    coefficients: Coefficients,
+    products: Products,
+    left: Column,
+    here: Column,
+    right: Column,
+) -> u16
+    requires { ⌜ Prepared coefficients × ProductsOf coefficients products ⌝ }
+    requires { ⌜ Pixels left × Pixels here × Pixels right ⌝ }
+    ensures { λ r. ⌜ r ≡ averageOf (kernelOfCoefficients coefficients) left here right ⌝ }
+{
+    divide_to_nearest(
+        product_sum(coefficients, products, left, here, right),
+        coefficients,
+    )
+}
+
+// One column of three rows of pixels as they stand. What is left over is added, or 0.
+fn pixels_at(above: &[u16], at: &[u16], below: &[u16], x: usize, rest: u32, lower: u32) -> Column
+    requires { ⌜ (x < length (now above)) × (x < length (now at)) × (x < length (now below)) × (rest ≡ 0) × (lower ≡ 0) ⌝ }
+    ensures { λ r. ⌜ r ≡ columnOf (now (above .entry)) (now (at .entry)) (now (below .entry)) x ⌝ }
+    ensures { λ r. ⌜ Pixels r ⌝ }
+{
+    Column {
+        above: standing(above[x], rest),
+        at: standing(at[x], rest),
+        below: standing(below[x], lower),
+    }
+}
+
+// The row core on pixels as they stand: a stretch of the next image, from three rows that have a pixel more on both sides. Of the
+// pixels that are added to each other one is enough that the compiler cannot tell.
+pub fn smooth_stretch(
+    up: &[u16],
+    mid: &[u16],
+    down: &[u16],
+    out: &mut [u16],
+    coefficients: Coefficients,
+    products: Products,
+)
+    requires { ⌜ Prepared coefficients × ProductsOf coefficients products ⌝ }
+    requires { ⌜ Long (length (now up)) (length (now mid)) (length (now down)) (length (now out)) ⌝ }
+    ensures { λ _. ⌜ now (out .exit) ≡ stretchOf (kernelOfCoefficients coefficients) (length (now (out .entry))) (now (up .entry)) (now (mid .entry)) (now (down .entry)) ⌝ }
+{
+    let rest = coefficients.rest;
+    let mut x = 0usize;
+    while x < out.len() {
+        let left = pixels_at(up, mid, down, x, rest, rest);
+        let here = pixels_at(up, mid, down, x + 1, rest, 0);
+        let right = pixels_at(up, mid, down, x + 2, 0, 0);
+        out[x] = average_of_pixels(coefficients, products, left, here, right);
+        x += 1;
+    }
+}
+
+// One pixel by itself, from three columns of the three rows, by all five products. For the ends of rows, where a neighbour is the pixel itself.
+pub fn average_at(
+    source: &[u16],
+    starts: Starts,
+    left: usize,
+    here: usize,
+    right: usize,
+    coefficients: Coefficients,
+) -> u16
+    requires { ⌜ Prepared coefficients ⌝ }
+    requires { ⌜ Inside (length (now source)) starts (left + 1) × Inside (length (now source)) starts (here + 1) × Inside (length (now source)) starts (right + 1) ⌝ }
+    ensures { λ r. ⌜ r ≡ averageOf (kernelOfCoefficients coefficients) (columnIn (now (source .entry)) starts left) (columnIn (now (source .entry)) starts here) (columnIn (now (source .entry)) starts right) ⌝ }
+{
+    let rest = coefficients.rest;
+    average_of_pixels(
+        coefficients,
+        coefficients.full(),
+        column_in(source, starts, left, rest),
+        column_in(source, starts, here, rest),
+        column_in(source, starts, right, rest),
+    )
 }

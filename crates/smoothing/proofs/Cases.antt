@@ -1,4 +1,4 @@
--- Worked cases: the order of the refusals of a run, and what short runs leave in both pictures and show. Each table has one
+-- Worked cases: the order of the refusals of a run, what short runs leave in both pictures and show, and the same within one picture. Each table has one
 -- computed proof. Assumes nothing.
 use mathlib.Core.Path.{_≡_, refl}
 use mathlib.Core.Bool.{false}
@@ -21,6 +21,7 @@ use Rattle.covariance.specs.Shapes.{varianceInRange, cosineInRange, squareInRan
 use Rattle.averaging.specs.Steps.{weightedAt, stepOf, iterate}
 use Rattle.smoothing.specs.Runs.{runChecks, Result, runOf}
 use Rattle.smoothing.specs.Shown.{shownOf}
+use Rattle.smoothing.specs.InPlace.{inPlaceOutcome, inPlaceAfter}
 
 -- ---- a shape, k, w, h, the lengths of the two pictures, and the number of the first refusal that applies: from row to row the
 -- first fault of the row before is mended
@@ -89,3 +90,44 @@ pub ran : (choice : Choice) → map (λ row. let a = after choice (row .0) (row 
 unfolding variancesFine directionFine covarianceXX covarianceXY covarianceYY kernelExists kernelWith pixelAt entries rows weightedAt stepOf iterate runOf shownOf
 ran Binomial = refl
 ran Smallest = refl
+
+-- ---- runs within one picture: xx, yy, k, w, h, the picture, the number of the refusal or 0, and the picture after the run. A row, a
+-- column and a single pixel; two rows; the bright pixel of case a (docs/REFERENCE.md, pictures worked through); and one refusal after the other,
+-- the picture a pixel too long, a pixel too short and right. The numbers are those of the weights: half to the left and half to the right, or up
+-- and down, the nearest pixel outside; and the sixteenths 1 2 1, 2 4 2, 1 2 1.
+pub record Within : Type 0 where
+  pub xx : ℕ
+  pub yy : ℕ
+  pub steps : ℕ
+  pub width : ℕ
+  pub height : ℕ
+  pub before : List ℕ
+  pub refusal : ℕ
+  pub after-it : List ℕ
+
+abbrev pub within : ℕ → ℕ → ℕ → ℕ → ℕ → List ℕ → ℕ → List ℕ → Within
+within xx yy k w h p r q = record { xx = xx; yy = yy; steps = k; width = w; height = h; before = p; refusal = r; after-it = q }
+
+abbrev pub withins : List Within
+withins =
+    within 4096 0 1 4 1 (0 ∷ 4 ∷ 0 ∷ 0 ∷ []) 0 (2 ∷ 0 ∷ 2 ∷ 0 ∷ [])
+    ∷ within 8192 0 2 4 1 (0 ∷ 4 ∷ 0 ∷ 0 ∷ []) 0 (1 ∷ 2 ∷ 0 ∷ 1 ∷ [])
+    ∷ within 0 4096 1 1 4 (0 ∷ 4 ∷ 0 ∷ 0 ∷ []) 0 (2 ∷ 0 ∷ 2 ∷ 0 ∷ [])
+    ∷ within 0 8192 2 1 4 (0 ∷ 4 ∷ 0 ∷ 0 ∷ []) 0 (1 ∷ 2 ∷ 0 ∷ 1 ∷ [])
+    ∷ within 4096 4096 3 1 1 (65535 ∷ []) 0 (65535 ∷ [])
+    ∷ within 0 4096 1 2 2 (8 ∷ 0 ∷ 2 ∷ 6 ∷ []) 0 (5 ∷ 3 ∷ 5 ∷ 3 ∷ [])
+    ∷ within 4096 0 1 2 2 (8 ∷ 0 ∷ 2 ∷ 6 ∷ []) 0 (4 ∷ 4 ∷ 4 ∷ 4 ∷ [])
+    ∷ within 2048 2048 1 3 3 (0 ∷ 0 ∷ 0 ∷ 0 ∷ 1600 ∷ 0 ∷ 0 ∷ 0 ∷ 0 ∷ []) 0 (100 ∷ 200 ∷ 100 ∷ 200 ∷ 400 ∷ 200 ∷ 100 ∷ 200 ∷ 100 ∷ [])
+    ∷ within 266240 0 65 0 1 (0 ∷ 4 ∷ []) 5 (0 ∷ 4 ∷ [])
+    ∷ within 266240 0 64 0 1 (0 ∷ 4 ∷ []) 6 (0 ∷ 4 ∷ [])
+    ∷ within 266240 0 64 3 1 (0 ∷ 4 ∷ []) 9 (0 ∷ 4 ∷ [])
+    ∷ within 266240 0 64 1 1 (0 ∷ 4 ∷ []) 9 (0 ∷ 4 ∷ [])
+    ∷ within 266240 0 64 2 1 (0 ∷ 4 ∷ []) 11 (0 ∷ 4 ∷ [])
+    ∷ []
+
+pub ran-within : map (λ r. let s = Matrix (pos (r .xx)) (pos 0) (pos (r .yy)) in
+    within (r .xx) (r .yy) (r .steps) (r .width) (r .height) (r .before) (outcomeNumber (inPlaceOutcome s (r .steps) (r .width) (r .height) (r .before)))
+    (inPlaceAfter Binomial s (r .steps) (r .width) (r .height) (r .before))) withins
+    ≡ withins
+unfolding variancesFine directionFine covarianceXX covarianceXY covarianceYY kernelExists kernelWith pixelAt entries rows weightedAt stepOf iterate inPlaceAfter
+ran-within = refl

@@ -2,5 +2,6 @@
 pub mod Steps
 pub mod Runs
 pub mod Theorems
+pub mod InPlace
 pub mod Spots
 pub mod Cases

@@ -5,7 +5,7 @@ use Prim.Native.Nat.{ℕ, _*_, _≤_}
 use lib.IntN.{ℤ}
 use borrow.Author.Tests.{eqb-true}
 use Rattle.limits.specs.Limits.{longestSide, mostSteps, sideInRange}
-use Rattle.limits.specs.Errors.{Check, _otherwise_, firstRefusal}
+use Rattle.limits.specs.Errors.{Check, _otherwise_, firstRefusal, heldAfter}
 use Rattle.limits.specs.declared.Outcome.{Outcome}
 use Rattle.limits.specs.declared.Outcome.the-variants.{Accepted, Refused}
 use Rattle.limits.specs.declared.ErrorCode.{ErrorCode}
@@ -24,7 +24,9 @@ use Rattle.covariance.specs.Shapes.{covarianceXX, covarianceXY, covarianceYY, k
 use Rattle.covariance.specs.Answer.{covarianceAnswer}
 use Rattle.covariance.proofs.Answers.{Passed, stopped, kernel-passed}
 use Rattle.row_core.specs.Prepared.{StepKernel}
+use Rattle.averaging.specs.Steps.{stepsOf}
 use Rattle.stepping.specs.Step.{PicturePair}
+use Rattle.in_place.specs.Bands.{OnePicture}
 use Rattle.smoothing.specs.Checks.{pictureChecks}
 use Rattle.smoothing.specs.Runs.{runChecks, runWith}
 use Rattle.limits.proofs.Checks.{refused-not-accepted, all-hold, in-turn}
@@ -44,6 +46,12 @@ module _ (shape : Shape) (k w h n m : ℕ) (accepted : firstRefusal (runChecks s
         },
         in-range 1 mostSteps k (holds .0) .0,
       )
+
+-- the one picture of a run within it, which stands in both places
+pub fills-one : (shape : Shape) (k w h n : ℕ) → firstRefusal (runChecks shape k w h n n) ≡ Accepted → OnePicture n w h
+fills-one shape k w h n accepted =
+    let p = fills-pair shape k w h n n accepted .0 in
+    record { wide = p .wide; high = p .high; narrow = p .narrow; pixels = p .source }
 
 -- ---- the checks of a run: those of its shape, then those of its pictures, then that of its kernel
 abbrev pub kernelCheck : Shape → ℕ → List Check
@@ -85,3 +93,8 @@ module _ (kernel : Kernel) (k : ℕ) where
       → runWith (answerWith outcome kernel .outcome) (answerWith outcome kernel .kernel) k w h first second ≡ runWith outcome kernel k w h first second
   same-run w h first second Accepted = refl
   same-run w h first second (Refused code) = refl
+
+  pub same-held : (w h : ℕ) (picture : List ℕ) (outcome : Outcome)
+      → heldAfter (answerWith outcome kernel .outcome) (stepsOf (answerWith outcome kernel .kernel) w h k picture) picture ≡ heldAfter outcome (stepsOf kernel w h k picture) picture
+  same-held w h picture Accepted = refl
+  same-held w h picture (Refused code) = refl

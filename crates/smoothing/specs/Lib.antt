@@ -1,4 +1,5 @@
--- What a run between two lent pictures leaves in them, and what its reader is shown.
+-- What a run between two lent pictures leaves in them, what its reader is shown, and what a run within one picture leaves in it.
 pub mod Checks
 pub mod Runs
 pub mod Shown
+pub mod InPlace

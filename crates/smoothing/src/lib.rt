@@ -1,19 +1,21 @@
-// The run: k smoothing steps between two lent pictures, there and back, and the part of the two that its reader is shown. The
-// public calls take any numbers and any lengths: what does not fit is refused, and then no pixel has changed. Each stands once
-// with a choice of the free number and once without.
+// The run: k smoothing steps between two lent pictures, there and back, and the part of the two that its reader is shown; and the
+// same steps within one lent picture. The public calls take any numbers and any lengths: what does not fit is refused, and then no
+// pixel has changed. Each stands once with a choice of the free number and once without.
 ghost use mathlib.Core.Path.{_≡_};
 ghost use Prim.Native.Nat.{_≤_};
 ghost use lib.ListN.{length};
-ghost use Rattle.limits.specs.Errors.{firstRefusal};
+ghost use Rattle.limits.specs.Errors.{firstRefusal, heldAfter};
 ghost use Rattle.averaging.specs.Steps.{stepOf, stepsOf};
 ghost use Rattle.row_core.specs.Prepared.{StepKernel};
 ghost use Rattle.stepping.specs.Step.{PicturePair};
+ghost use Rattle.in_place.specs.Bands.{OnePicture};
 ghost use Rattle.kernel.specs.Answer.{answerWith};
 ghost use Rattle.kernel.specs.Choice.{defaultChoice};
 ghost use Rattle.covariance.specs.Shapes.{kernelOfShapeBy};
 ghost use Rattle.smoothing.specs.Checks.{pictureChecks};
 ghost use Rattle.smoothing.specs.Runs.{runChecks, isEven, stepsInFirst, stepsInSecond, runWith, runOf};
 ghost use Rattle.smoothing.specs.Shown.{shownOf};
+ghost use Rattle.smoothing.specs.InPlace.{inPlaceOutcome, inPlaceAfter};
 use covariance::Covariance;
 use covariance::Shape;
 use kernel::Choice;
@@ -230,4 +232,60 @@ pub fn shown<'a>(
     ensures { λ r. ⌜ now r ≡ shownOf shape steps width height (now (first .entry)) (now (second .entry)) ⌝ }
 {
     shown_by(Choice::Binomial, shape, steps, width, height, first, second)
+}
+
+// The steps of a run with the kernel of an answer within one picture, or the refusal that the answer has in its place.
+fn steps_with(
+    answer: KernelAnswer,
+    steps: u32,
+    width: u32,
+    height: u32,
+    picture: &mut [u16],
+) -> Outcome
+    requires { ⌜ (answer .outcome ≡ Outcome.Accepted → StepKernel (answer .kernel)) ⌝ }
+    requires { ⌜ (answer .outcome ≡ Outcome.Accepted → OnePicture (length (now picture)) width height) ⌝ }
+    ensures { λ r. ⌜ r ≡ answer .outcome ⌝ }
+    ensures { λ _. ⌜ now (picture .exit) ≡ heldAfter (answer .outcome) (stepsOf (answer .kernel) width height steps (now (picture .entry))) (now (picture .entry)) ⌝ }
+{
+    let outcome = answer.outcome;
+    let kernel = answer.kernel;
+    match outcome {
+        Outcome::Accepted => {
+            in_place::steps(picture, width as usize, height as usize, steps, kernel);
+            Outcome::Accepted
+        }
+        Outcome::Refused(code) => Outcome::Refused(code),
+    }
+}
+
+// A run within one picture (docs/REFERENCE.md, S5.1 to S5.4): the picture is smoothed in so many steps with the kernel of a shape, and then
+// holds the last step, or refusal 3, 4, 5, 6, 9 or 11.
+pub fn run_in_place_by(
+    choice: Choice,
+    shape: Shape,
+    steps: u32,
+    width: u32,
+    height: u32,
+    picture: &mut [u16],
+) -> Outcome
+    ensures outcome { λ r. ⌜ r ≡ inPlaceOutcome shape steps width height (now (picture .entry)) ⌝ }
+    ensures picture { λ _. ⌜ now (picture .exit) ≡ inPlaceAfter choice shape steps width height (now (picture .entry)) ⌝ }
+{
+    let pixels = picture.len();
+    let answer = run_kernel(choice, shape, steps, width, height, pixels, pixels);
+    steps_with(answer, steps, width, height, picture)
+}
+
+// The same where no choice is named.
+pub fn run_in_place(
+    shape: Shape,
+    steps: u32,
+    width: u32,
+    height: u32,
+    picture: &mut [u16],
+) -> Outcome
+    ensures outcome { λ r. ⌜ r ≡ inPlaceOutcome shape steps width height (now (picture .entry)) ⌝ }
+    ensures picture { λ _. ⌜ now (picture .exit) ≡ inPlaceAfter defaultChoice shape steps width height (now (picture .entry)) ⌝ }
+{
+    run_in_place_by(Choice::Binomial, shape, steps, width, height, picture)
 }

@@ -1,30 +1,26 @@
 -- Parts of a list, and what they become where one of them is written. Assumes nothing.
 use mathlib.Core.Path.{_≡_, sym, ap, _∙_}
 use mathlib.Core.Logic.{inl, inr}
-use mathlib.Core.List.{List, _++_, append-assoc}
-use Prim.Native.Nat.{ℕ, _+_, _-_, _≤_, _<_}
-use native.Mathlib.Nat.{add-sub-cancel-left}
-use native.Mathlib.Numerals.{add-one}
+use mathlib.Core.List.{List, _++_}
+use Prim.Native.Nat.{ℕ, _+_, _-_, _*_, _≤_, _<_}
 use native.Mathlib.Omega.{arith}
 use lib.ListN.{length, getD, take, drop, List·getD-append}
-use lib.Seq.{paste, length-paste, length-paste-head, length-take-le, take-all, take-at, take-paste, drop-at, drop-drop, getD-take, getD-drop, getD-append-add, ext-getD}
-use Rattle.image.specs.Image.{rows}
+use lib.Seq.{paste, length-paste, length-paste-head, length-take-le, take-all, getD-take, getD-drop, getD-append-add, ext-getD}
+use Rattle.kernel.specs.Sound.{Sound}
+use Rattle.kernel.specs.declared.Kernel.{Kernel}
+use Rattle.averaging.specs.Steps.{stepOf}
 use Rattle.row_core.specs.Rows.{part}
-use Rattle.row_core.proofs.Rows.{length-part}
+use Rattle.row_core.proofs.Parts.{length-part, part-at, made-more}
+use Rattle.row_core.proofs.Rows.{lineOf, line-part}
 use Rattle.stepping.specs.Buffers.{Apart}
 
-part-at : (i n : ℕ) (l : List ℕ) (t : ℕ) → t < n → getD (part i n l) t 0 ≡ getD l (i + t) 0
-part-at i n l t h = getD-take n (drop i l) t 0 h ∙ getD-drop i l t 0
-
--- what comes back from j to j + n of a list
-pub placed : (j n : ℕ) (d : List ℕ) {l r : List ℕ} → l ≡ r → length r ≡ n → take j d ++ (l ++ drop (j + n - j) (drop j d)) ≡ paste d j r n
-placed j n d {l} {r} e h = rw (e, add-sub-cancel-left j n, drop-drop n j d, take-all n r (omega arith)) (sym (append-assoc (take j d) r (drop (j + n) d)))
-
--- one more row is pasted behind n rows
-pub store-row : (n j w : ℕ) (f : ℕ → List ℕ) (d : List ℕ) {o row : List ℕ} → j ≤ length d → length row ≡ w → take j d ≡ rows n f → row ≡ f n
-    → o ≡ paste d j row w → take (j + w) o ≡ rows (n + 1) f
-unfolding rows
-store-row n j w f d {o} {row} lj lw done er eo = rw (eo, take-paste d j row w lj (omega arith), take-all w row (omega arith), add-one, done, er)
+-- one more row of a step is pasted behind those before it
+pub store-row : (k : Kernel) (n : ℕ) → Sound k n → (w h : ℕ) (source : List ℕ) → 1 ≤ w → length source ≡ w * h → (y i : ℕ) (d : List ℕ) {o row : List ℕ}
+    → y < h → i ≡ y * w → i ≤ length d → length row ≡ w → take i d ≡ take i (stepOf k w h source) → row ≡ lineOf k w h source y → o ≡ paste d i row w
+    → take (i + w) o ≡ take (i + w) (stepOf k w h source)
+store-row k n sound w h source some size y i d {o} {row} l at li lw done e made =
+    made-more i w (stepOf k w h source) d row li (omega (arith, lw)) done
+    (take-all w row (omega (arith, lw)) ∙ e ∙ line-part k n sound w h source some size y l ∙ ap (λ (j : ℕ). part j w (stepOf k w h source)) (sym at)) made
 
 pub apart-sym : (n i j : ℕ) → Apart n i j → Apart n j i
 apart-sym n i j (inl h) = inr h
@@ -32,11 +28,6 @@ apart-sym n i j (inr h) = inl h
 
 -- n elements r are written at j
 module _ (l : List ℕ) (j n : ℕ) (r : List ℕ) (inside : j + n ≤ length l) (size : length r ≡ n) where
-  pub part-written : part j n (paste l j r n) ≡ r
-  part-written =
-      rw (append-assoc (take j l) (take n r) (drop (j + n) l), drop-at (take j l) (take n r ++ drop (j + n) l) j (length-take-le j l (omega arith)), take-all n r (omega arith))
-      (take-at r (drop (j + n) l) n size)
-
   head : length (take j l ++ take n r) ≡ j + n
   head = length-paste-head l j r n (omega arith) (omega arith)
 

@@ -18,7 +18,8 @@ use Rattle.row_core.proofs.Rows.{length-padded, row-inside, lineOf}
 use Rattle.stepping.specs.Buffers.{rowFrom, WindowInside}
 use Rattle.stepping.specs.Whole.{lineAt, HoldsRows, Readable}
 use Rattle.stepping.specs.declared.Window.{Window}
-use Rattle.stepping.proofs.Buffers.{part-written, part-kept}
+use Rattle.row_core.proofs.Parts.{part-written}
+use Rattle.stepping.proofs.Buffers.{part-kept}
 use Rattle.stepping.proofs.Windows.{inside}
 
 -- the line of row y lies inside those of h rows

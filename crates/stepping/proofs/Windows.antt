@@ -7,10 +7,11 @@ use native.Mathlib.Omega.{arith}
 use lib.ListN.{length}
 use lib.Seq.{paste, length-paste}
 use Rattle.row_core.specs.Rows.{paddedOf, AllDoubled, part}
-use Rattle.row_core.proofs.Rows.{length-part, length-padded}
+use Rattle.row_core.proofs.Parts.{length-part, part-written}
+use Rattle.row_core.proofs.Rows.{length-padded}
 use Rattle.stepping.specs.Buffers.{WindowInside, Slots, Loaded}
 use Rattle.stepping.specs.declared.Window.{Window}
-use Rattle.stepping.proofs.Buffers.{part-written, part-kept, apart-sym}
+use Rattle.stepping.proofs.Buffers.{part-kept, apart-sym}
 
 -- a window of lines, and a row that fits
 pub inside : (l : List ℕ) (v : Window) (m i w : ℕ) → v .above + (w + 2) ≤ length l → v .at + (w + 2) ≤ length l → v .below + (w + 2) ≤ length l

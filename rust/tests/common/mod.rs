@@ -3,6 +3,7 @@
 //! `VOKHSAOT_SEED` (default 1) chooses other inputs, `VOKHSAOT_TIMES` (default 1) so many times as many.
 #![allow(dead_code)]
 
+pub mod kinds;
 pub mod services;
 
 use reference::error_code::ErrorCode;

@@ -10,7 +10,7 @@ trap 'rm -rf "$work"' EXIT
 
 # The proved calls under other names, and the faulty ones beside them.
 renamed=()
-for call in opening tick collect withdraw free_count change_over run_matrix_by convert_j_to_n convert_n_to_j; do
+for call in opening tick collect withdraw free_count change_over run_matrix_by run_in_place_matrix_by convert_j_to_n convert_n_to_j; do
     renamed+=(--redefine-sym "vokhsaot_$call=proved_$call")
 done
 objcopy "${renamed[@]}" "$library/libcapi.a" "$work/libcapi.a"
@@ -34,6 +34,8 @@ LIST
 # A step in which the two choices of f differ, and its picture by the smallest.
 echo 'P2 3 3 1600  0 0 0  0 1600 0  0 0 0' >"$work/spot.pgm"
 echo 'P2 3 3 1600  0 400 0  400 0 400  0 400 0' >"$work/hollow.pgm"
+# A column whose rows differ.
+echo 'P2 1 4 1600  1600 0 0 0' >"$work/column.pgm"
 cat >"$work/one-step.list" <<'LIST'
 submit matrix 2048 0 2048 steps 1 size 3 3 pixels 0 0 0 0 1600 0 0 0 0
 tick
@@ -81,6 +83,19 @@ check 10 1 'NO ANSWER: it did not end within 5 seconds'
 by_smallest=(compare --matrix '2048,0,2048' --steps 1 --choice smallest "$work/spot.pgm" "$work/hollow.pgm")
 check 0 0 "library's run, steps 1: equal" "${by_smallest[@]}"
 check 11 1 "library's run, steps 1: 9 of 9 pixels DIFFER" "${by_smallest[@]}"
+# A run within one picture: what smooth writes is compared with the run between two.
+# check_within FAULT STATUS WORDS PICTURE OPTIONS..
+check_within() {
+    VOKHSAOT_FAULT=$1 "$work/vokhsaot" smooth --quiet "${@:5}" "$work/$4" "$work/within.pgm"
+    check "$1" "$2" "$3" compare "${@:5}" "$work/$4" "$work/within.pgm"
+}
+up_and_down=(column.pgm --matrix '0,0,2048' --steps 1)
+check_within 0 0 "library's run, steps 1: equal" "${up_and_down[@]}"
+check_within 20 1 "library's run, steps 1: 3 of 4 pixels DIFFER, first in column 0, row 1" "${up_and_down[@]}"
+smallest=(spot.pgm --matrix '2048,0,2048' --steps 1 --choice smallest)
+check_within 0 0 "library's run, steps 1: equal" "${smallest[@]}"
+check_within 21 1 "DIFFER, first in column 0, row 0; equal with --choice binomial" "${smallest[@]}"
+check_within 22 1 "library's run, steps 1: 5 of 9 pixels DIFFER" spot.pgm --matrix '4096,0,4096' --steps 1
 check 0 0 'verdict: good: ' replay "$work/one-step.list"
 check 12 1 'WRONG STORE: buffer 1 (seat 0, job 1): pixel 0 is 0 (due: 100)' replay "$work/one-step.list"
 check 12 1 'job 1: DIFFERS from its lone run' replay "$work/one-step.list"

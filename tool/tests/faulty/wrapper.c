@@ -13,6 +13,8 @@ uint32_t proved_free_count(const uint64_t *words, size_t words_len, uint32_t *co
 uint32_t proved_change_over(const uint64_t *old_words, size_t old_words_len, uint64_t *words, size_t words_len);
 uint32_t proved_run_matrix_by(uint32_t choice, int32_t xx, int32_t xy, int32_t yy, uint32_t steps, uint32_t width,
                               uint32_t height, uint16_t *first, size_t first_len, uint16_t *second, size_t second_len);
+uint32_t proved_run_in_place_matrix_by(uint32_t choice, int32_t xx, int32_t xy, int32_t yy, uint32_t steps, uint32_t width,
+                                       uint32_t height, uint16_t *picture, size_t picture_len);
 uint32_t proved_convert_j_to_n(const uint8_t *text, size_t text_len, uint8_t *out, size_t out_len);
 uint32_t proved_convert_n_to_j(const uint8_t *text, size_t text_len, uint8_t *out, size_t out_len);
 
@@ -63,6 +65,39 @@ uint32_t vokhsaot_run_matrix_by(uint32_t choice, int32_t xx, int32_t xy, int32_t
                                 uint32_t height, uint16_t *first, size_t first_len, uint16_t *second, size_t second_len) {
     return proved_run_matrix_by(fault() == 11 ? VOKHSAOT_BINOMIAL : choice, xx, xy, yy, steps, width, height, first, first_len, second,
                                 second_len);
+}
+
+/* A run of one step that puts each new row in its place at once, so that the row below reads it. */
+static uint32_t step_over_old_rows(uint32_t choice, int32_t xx, int32_t xy, int32_t yy, uint32_t width, uint32_t height,
+                                   uint16_t *picture) {
+    static uint16_t three[3 * VOKHSAOT_LONGEST_SIDE], made[3 * VOKHSAOT_LONGEST_SIDE];
+    uint32_t code = 0;
+    size_t row = width * sizeof *picture;
+    /* Above the first row it reads that one as it was, as it should. */
+    memcpy(three, picture, row);
+    for (uint32_t y = 0; y < height && code == 0; y += 1) {
+        uint16_t *here = picture + (size_t)y * width;
+        memcpy(three + width, here, row);
+        memcpy(three + 2 * (size_t)width, y + 1 < height ? here + width : here, row);
+        code = proved_run_matrix_by(choice, xx, xy, yy, 1, width, 3, three, 3 * (size_t)width, made, 3 * (size_t)width);
+        memcpy(here, made + width, row);
+        memcpy(three, here, row);
+    }
+    return code;
+}
+
+/* Within one picture. 20: a run of one step writes each new row over the old one. 21: the choice is not heeded. 22: nothing is
+   done. */
+uint32_t vokhsaot_run_in_place_matrix_by(uint32_t choice, int32_t xx, int32_t xy, int32_t yy, uint32_t steps, uint32_t width,
+                                         uint32_t height, uint16_t *picture, size_t picture_len) {
+    if (fault() == 20 && steps == 1 && picture_len == (size_t)width * height) {
+        return step_over_old_rows(choice, xx, xy, yy, width, height, picture);
+    }
+    if (fault() == 22) {
+        return 0;
+    }
+    return proved_run_in_place_matrix_by(fault() == 21 ? VOKHSAOT_BINOMIAL : choice, xx, xy, yy, steps, width, height, picture,
+                                         picture_len);
 }
 
 /* 3: no job is ever handed over. 4: the last pixel handed over is one too small. */

@@ -31,6 +31,9 @@ div-reciprocal c = search needs
 cast-reciprocal : tie.Need-cast-reciprocal
 cast-reciprocal c = record { fits = reciprocal-below _ (omega (arith, c .pre .sound .sum, c .pre .sound .low)) }
 
+cast-rest : tie.Need-cast-rest
+cast-rest c = search needs
+
 element-copy-out-diagonal : tie.Need-element-copy-out-diagonal
 element-copy-out-diagonal c = search needs
 
@@ -64,7 +67,7 @@ cast-centre c = weight-cast (c .before .before .before .before .before) _
 returns : tie.Need-returns
 returns c =
     let s = c .before .before .before .before .before in
-    stands (s .args .t1) (s .pre .steps) (s .pre .sound) _ refl refl refl refl refl refl
+    stands (s .args .t1) (s .pre .steps) (s .pre .sound) _ refl refl refl refl refl refl refl refl
 
 pub coefficients-of-spec : {M : Type 1} → statement M
 coefficients-of-spec =
@@ -75,6 +78,7 @@ coefficients-of-spec =
     add-reciprocal
     div-reciprocal
     cast-reciprocal
+    cast-rest
     element-copy-out-diagonal
     cast-diagonal
     element-copy-out-down

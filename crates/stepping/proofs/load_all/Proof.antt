@@ -9,7 +9,8 @@ use lib.ListN.{length}
 use lib.Seq.{length-paste}
 use borrow.Author.Needs.{needs}
 use Rattle.row_core.specs.Rows.{paddedOf, part}
-use Rattle.row_core.proofs.Rows.{length-part, length-padded, row-inside}
+use Rattle.row_core.proofs.Parts.{length-part}
+use Rattle.row_core.proofs.Rows.{length-padded, row-inside}
 use Rattle.stepping.specs.Whole.{lineAt}
 use Rattle.stepping.proofs.Whole.{line-inside, hold-more}
 use Rattle.stepping.proofs.load_all.Statement.{statement}

@@ -7,7 +7,7 @@ use native.Mathlib.Omega.{arith}
 use lib.ListN.{length}
 use borrow.Author.Needs.{needs}
 use Rattle.row_core.specs.Rows.{paddedOf, part}
-use Rattle.row_core.proofs.Rows.{length-part}
+use Rattle.row_core.proofs.Parts.{length-part}
 use Rattle.stepping.proofs.Windows.{load-below, move-down}
 use Rattle.stepping.proofs.load_below.Statement.{statement}
 use Rattle.stepping.proofs.load_below.Tie as tie

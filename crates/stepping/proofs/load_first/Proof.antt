@@ -6,8 +6,9 @@ use Prim.Native.Nat.{ℕ, _+_}
 use native.Mathlib.Omega.{arith}
 use lib.ListN.{length}
 use Rattle.row_core.specs.Rows.{paddedOf, part}
-use Rattle.row_core.proofs.Rows.{length-part, length-padded}
-use Rattle.stepping.proofs.Buffers.{part-written, part-kept}
+use Rattle.row_core.proofs.Parts.{length-part, part-written}
+use Rattle.row_core.proofs.Rows.{length-padded}
+use Rattle.stepping.proofs.Buffers.{part-kept}
 use borrow.Author.Needs.{needs}
 use Rattle.stepping.proofs.load_first.Statement.{statement}
 use Rattle.stepping.proofs.load_first.Tie as tie

@@ -4,8 +4,8 @@ use mathlib.Core.Path.{ap, _∙_}
 use Prim.Native.Nat.{ℕ, _+_}
 use native.Mathlib.Nat.{add-sub-cancel-left}
 use Rattle.row_core.specs.Rows.{part}
-use Rattle.row_core.proofs.Rows.{length-part, length-padded}
-use Rattle.stepping.proofs.Buffers.{placed}
+use Rattle.row_core.proofs.Parts.{length-part, placed}
+use Rattle.row_core.proofs.Rows.{length-padded}
 use borrow.Author.Needs.{needs}
 use Rattle.stepping.proofs.load_line.Statement.{statement}
 use Rattle.stepping.proofs.load_line.Tie as tie

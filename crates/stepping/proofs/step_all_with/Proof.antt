@@ -6,12 +6,12 @@ use Prim.Native.Nat.{ℕ, _+_, _-_, _*_, _≤_, _<_, min}
 use native.Mathlib.Nat.{zero-mul}
 use native.Mathlib.Omega.{arith}
 use lib.ListN.{length, take}
-use lib.Seq.{take-all}
 use borrow.Author.Needs.{needs}
 use Rattle.kernel.specs.declared.Kernel.{Kernel}
-use Rattle.image.specs.Image.{rows}
+use Rattle.averaging.specs.Steps.{stepOf}
 use Rattle.row_core.specs.Prepared.{kernelOfCoefficients}
-use Rattle.row_core.proofs.Rows.{lineOf, length-row, row-inside, by-lines}
+use Rattle.row_core.proofs.Parts.{made-all}
+use Rattle.row_core.proofs.Rows.{length-row, length-step, row-inside}
 use Rattle.stepping.specs.Whole.{HoldsRows}
 use Rattle.stepping.specs.declared.Window.{Window}
 use Rattle.stepping.proofs.Buffers.{store-row}
@@ -24,7 +24,7 @@ record Progress (k : Kernel) (w h : ℕ) (lines d₀ d : List ℕ) (v : Window) 
   row : i ≡ y * w
   size : length d ≡ length d₀
   around : y < h → Around v w h y
-  done : (source : List ℕ) → HoldsRows lines w h source → take i d ≡ rows y (lineOf k w h source)
+  done : (source : List ℕ) → length source ≡ w * h → HoldsRows lines w h source → take i d ≡ take i (stepOf k w h source)
 
 abbrev Inv-loop : tie.InvT-loop
 Inv-loop lines target₀ width height last coefficients products size window₀ row₀ y₀ target window row y =
@@ -44,7 +44,6 @@ next-requires c κs =
     omega (arith, line-inside (s .args .width) (s .args .height) 0 (omega (arith, s .pre .1 .0)), s .pre .1 .0, s .good)
 
 loop-holds : tie.Need-loop-holds Inv-loop μ-loop
-unfolding rows
 loop-holds c =
     let s = c .before .before .before in
     let a = s .args in
@@ -55,7 +54,7 @@ loop-holds c =
       row = sym (zero-mul (a .width));
       size = refl;
       around = λ l. around-first (a .width) (a .height) (record { above = 0; at = 0; below = 0 }) (c .next .result) refl refl (e .0, e .1, e .2 ∙ rw last);
-      done = λ source holds. refl;
+      done = λ source fills holds. refl;
     }
 
 step-row-with-requires : tie.Need-step-row-with-requires Inv-loop μ-loop
@@ -102,9 +101,9 @@ loop-again c =
       size = r .kept .1 .1 .0 ∙ l .inv .size;
       around = λ more. around-next (a .width) (a .height) (l .done) (l .window) (c .next2 .result) more around (e .0, e .1, e .2 ∙ rw (s .pre .1 .1));
       done =
-          λ source holds. store-row (l .done) (l .row) (a .width) (lineOf k (a .width) (a .height) source) (l .target)
+          λ source fills holds. store-row k (s .pre .0 .0 .steps) (s .pre .0 .0 .sound) (a .width) (a .height) source (s .pre .1 .0 .wide) fills (l .done) (l .row) (l .target) low (l .inv .row)
           (omega (arith, row-inside (a .width) (a .height) (l .done) low, l .inv .row, l .inv .size, s .pre .1 .0 .target))
-          (length-row k (a .width) _ _ _) (l .inv .done source holds)
+          (length-row k (a .width) _ _ _) (l .inv .done source fills holds)
           (around-row (a .lines .now) (a .width) (a .height) (l .window) (l .done) low around k source holds) (r .ensures);
     }
 
@@ -117,12 +116,9 @@ returns c source fills holds =
     let a = s .args in
     let l = c .before .loop in
     let k = kernelOfCoefficients (a .coefficients) in
-    let f = lineOf k (a .width) (a .height) source in
     let y : l .done ≡ a .height = omega (arith, l .inv .within) in
-    sym (take-all (l .row) (l .target) (omega (arith, ap (λ (n : ℕ). a .width * n) y, l .inv .row, l .inv .size, s .pre .1 .0 .target)))
-    ∙ l .inv .done source holds
-    ∙ ap (λ (n : ℕ). rows n f) y
-    ∙ by-lines k (s .pre .0 .0 .steps) (s .pre .0 .0 .sound) (a .width) (a .height) source (s .pre .1 .0 .wide) fills
+    let end : l .row ≡ a .width * a .height = omega (arith, ap (λ (n : ℕ). a .width * n) y, l .inv .row) in
+    made-all (l .row) (l .target) (stepOf k (a .width) (a .height) source) (omega (arith, end, l .inv .size, s .pre .1 .0 .target)) (omega (arith, end, length-step k (a .width) (a .height) source)) (l .inv .done source fills holds)
 
 pub step-all-with-spec : {M : Type 1} → statement M
 step-all-with-spec =

@@ -5,8 +5,8 @@ use Prim.Native.Nat.{_+_}
 use native.Mathlib.Nat.{add-sub-cancel-left}
 use Rattle.row_core.specs.Prepared.{kernelOfCoefficients}
 use Rattle.row_core.specs.Rows.{part}
-use Rattle.row_core.proofs.Rows.{length-part, length-row}
-use Rattle.stepping.proofs.Buffers.{placed}
+use Rattle.row_core.proofs.Parts.{length-part, placed}
+use Rattle.row_core.proofs.Rows.{length-row}
 use borrow.Author.Needs.{needs}
 use Rattle.stepping.proofs.step_row_with.Statement.{statement}
 use Rattle.stepping.proofs.step_row_with.Tie as tie

@@ -7,14 +7,14 @@ use Prim.Native.Nat.{ℕ, _+_, _-_, _*_, _≤_, _<_, min}
 use native.Mathlib.Nat.{zero-mul, lt-of-mul-lt-mul-left}
 use native.Mathlib.Omega.{arith}
 use lib.ListN.{length, take}
-use lib.Seq.{take-all}
 use borrow.Author.Needs.{needs}
 use Rattle.kernel.specs.declared.Kernel.{Kernel}
-use Rattle.image.specs.Image.{rows}
+use Rattle.averaging.specs.Steps.{stepOf}
 use Rattle.row_core.specs.Prepared.{kernelOfCoefficients}
 use Rattle.row_core.specs.Rows.{paddedOf, AllDoubled, part}
 use Rattle.row_core.proofs.Pixels.{part-pixels, padded-doubled}
-use Rattle.row_core.proofs.Rows.{lineOf, length-row, row-inside, by-lines}
+use Rattle.row_core.proofs.Parts.{made-all}
+use Rattle.row_core.proofs.Rows.{lineOf, length-row, length-step, row-inside}
 use Rattle.stepping.specs.Buffers.{Loaded}
 use Rattle.stepping.specs.declared.Window.{Window}
 use Rattle.stepping.proofs.Buffers.{store-row}
@@ -29,7 +29,7 @@ record Progress (k : Kernel) (w h : ℕ) (source d₀ d b₀ b : List ℕ) (v : 
   size : length d ≡ length d₀
   room : length b ≡ length b₀
   loaded : y < h → Loaded b v w (part ((y - 1) * w) w source) (part (y * w) w source)
-  done : take i d ≡ rows y (lineOf k w h source)
+  done : take i d ≡ take i (stepOf k w h source)
 
 abbrev Inv-loop : tie.InvT-loop
 Inv-loop source target₀ lines₀ width height coefficients window₀ row₀ y₀ target lines window row y =
@@ -57,7 +57,6 @@ load-first-requires c κs =
     omega (arith, row-inside (s .args .width) (s .args .height) 0 (omega (arith, s .pre)), s .pre)
 
 loop-holds : tie.Need-loop-holds Inv-loop μ-loop
-unfolding rows
 loop-holds c =
     let w = c .before .before .before .before .before .before .before .args .width in
     let first = c .before .before .load-first in
@@ -149,7 +148,7 @@ loop-again c =
           rw (here, ← l .inv .row, ← next)
           (b .ensures .1 .1 (omega (arith, row-inside (a .width) (a .height) (l .y + 1) more, l .inv .row, p)) (c .down .result) (c .down .ensures));
       done =
-          store-row (l .y) (l .row) (a .width) (lineOf k (a .width) (a .height) (a .source .now)) (l .target)
+          store-row k (s .pre .0 .steps) (s .pre .0 .sound) (a .width) (a .height) (a .source .now) (p .wide) (p .source) (l .y) (l .row) (l .target) low (l .inv .row)
           (omega (arith, row-inside (a .width) (a .height) (l .y) low, l .inv .row, l .inv .size, p .target)) (length-row k (a .width) _ _ _) (l .inv .done)
           (rw (holds .above, holds .at, holds .below, loaded .above, lowest (a .width) (a .height) (l .y) (length (a .source .now)) (l .row) (p .high) (p .source) (l .inv .row), l .inv .row)) (r .ensures);
     }
@@ -166,12 +165,9 @@ returns c =
     let a = s .args in
     let l = c .before .loop in
     let k = kernelOfCoefficients (a .coefficients) in
-    let f = lineOf k (a .width) (a .height) (a .source .now) in
     let y : l .y ≡ a .height = omega (arith, l .inv .within) in
-    sym (take-all (l .row) (l .target) (omega (arith, ap (λ (n : ℕ). a .width * n) y, l .inv .row, l .inv .size, s .pre .1 .0 .target)))
-    ∙ l .inv .done
-    ∙ ap (λ (n : ℕ). rows n f) y
-    ∙ by-lines k (s .pre .0 .steps) (s .pre .0 .sound) (a .width) (a .height) (a .source .now) (s .pre .1 .0 .wide) (s .pre .1 .0 .source)
+    let end : l .row ≡ a .width * a .height = omega (arith, ap (λ (n : ℕ). a .width * n) y, l .inv .row) in
+    made-all (l .row) (l .target) (stepOf k (a .width) (a .height) (a .source .now)) (omega (arith, end, l .inv .size, s .pre .1 .0 .target)) (omega (arith, end, length-step k (a .width) (a .height) (a .source .now))) (l .inv .done)
 
 pub step-through-spec : {M : Type 1} → statement M
 step-through-spec =
