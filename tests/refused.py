@@ -45,9 +45,7 @@ def function_fault(log, crate, function):
         return None  # a function without a proof file: the prover's own search finds no proof of what is asked of it
     if not any(": not proved" in line for line in verdicts):
         return f"the log does not say that it is not proved: {verdicts}"
-    # a function that calls itself has its proof in a folder whose name begins with a plus
-    folders = function.split("::")
-    return fact_fault(errors_in(log, "/proofs/" + "/".join(folders[:-1] + [rf"\+?{folders[-1]}"]) + r"/Proof\.antt:\d+:\d+: error: "))
+    return fact_fault(errors_in(log, "/proofs/" + "/".join(function.split("::")) + r"/Proof\.antt:\d+:\d+: error: "))
 
 
 LOOKS_FOR = {"refuses": function_fault, "breaks": law_fault}
@@ -82,7 +80,7 @@ FACT = "/w/proofs/f/Proof.antt:3:1: error: `returns`: the two types differ"
 KNOWN = [
     (["refuses: f", "new: 1"], ["fn c::f: not proved", FACT], [None]),
     (["refuses: f", "new: 1"], ["fn c::f: no proof: expected `f-spec`; `search` does not close `returns`"], [None]),
-    (["refuses: a::f", "new: 1"], ["fn c::a::f: not proved", "/w/proofs/a/+f/Proof.antt:3:1: error: `returns`: omega"], [None]),
+    (["refuses: a::f", "new: 1"], ["fn c::a::f: not proved", "/w/proofs/a/f/Proof.antt:3:1: error: `returns`: omega"], [None]),
     (["breaks: Cases.worked", "new: 1"], ["/w/proofs/Cases.antt:9:1: error: `worked`: the two types differ"], [None]),
     (["refuses: f", "new: 1", "breaks: Cases.worked", "new: 2"], ["fn c::f: not proved", FACT], [None, "Cases.worked: no error"]),
     (["refuses: f", "new: 1"], ["fn c::f: proved", FACT], ["f: the log does not say"]),

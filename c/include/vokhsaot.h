@@ -27,12 +27,31 @@
  * also in a signal handler, where they are lent different records, stores and pictures. Two calls that are lent the same one
  * need a lock of the caller's, unless both only read it (a parameter that points to const).
  *
- * NEEDS. Of the C library memcpy and memset, and nothing else. Stack: vokhsaot_answer_text() takes at most 48 KiB,
- * vokhsaot_convert_j_to_n() and vokhsaot_convert_n_to_j() at most 20 KiB, a run between two pictures and a tick at most 16 KiB,
- * a run within one picture at most 5 KiB, every other call at most 4 KiB, with what memcpy and memset take besides.
- * Measured, a run within one picture takes about 4.8 KiB, whatever the picture's size (c/tests/object_code.py prints the bytes).
+ * NEEDS. Of the C library memcpy and memset, and nothing else.
  * Every call ends: a run takes time in proportion to steps x width x height, a tick to width x height, a conversion to the
  * text's length.
+ *
+ * STACK. In bytes, the most that a call of this release takes with all that it calls, its return address included, whatever it is
+ * lent. What a caller puts there for its arguments is not counted, nor what memcpy and memset take but their return address. No
+ * function of the library calls itself, directly or through others (S6.1).
+ *   46288  vokhsaot_answer_text
+ *   16572  vokhsaot_convert_j_to_n, vokhsaot_convert_n_to_j
+ *   13280  vokhsaot_run_matrix_by, vokhsaot_run_oval_by, vokhsaot_run_round_by
+ *   12976  vokhsaot_tick
+ *    5008  vokhsaot_run_in_place_matrix_by, vokhsaot_run_in_place_oval_by, vokhsaot_run_in_place_round_by
+ *    2456  vokhsaot_change_over
+ *    2024  vokhsaot_withdraw
+ *    1944  vokhsaot_submit_matrix_by
+ *    1928  vokhsaot_submit_oval_by, vokhsaot_submit_round_by
+ *    1704  vokhsaot_collect
+ *     984  vokhsaot_free_count
+ *     728  vokhsaot_opening
+ *     232  vokhsaot_kernel_matrix_by, vokhsaot_kernel_oval_by, vokhsaot_kernel_round_by
+ *      88  vokhsaot_covariance_oval, vokhsaot_covariance_round
+ *      48  vokhsaot_directional, vokhsaot_mixed, vokhsaot_second_y
+ *      40  vokhsaot_first_y
+ *      32  vokhsaot_first_x, vokhsaot_second_x
+ *       8  vokhsaot_pixel, vokhsaot_shown
  */
 #ifndef VOKHSAOT_H
 #define VOKHSAOT_H
@@ -46,10 +65,10 @@ extern "C" {
 
 /* ---- Version. The library has the soname libvokhsaot.so.MAJOR.MINOR: with another of these, compile again. */
 
-#define VOKHSAOT_VERSION "0.6.0"
+#define VOKHSAOT_VERSION "0.6.1"
 #define VOKHSAOT_VERSION_MAJOR 0
 #define VOKHSAOT_VERSION_MINOR 6
-#define VOKHSAOT_VERSION_PATCH 0
+#define VOKHSAOT_VERSION_PATCH 1
 
 /* ---- Limits. Whole numbers, for #if too. */
 

@@ -1,7 +1,8 @@
 #!/usr/bin/env bash
 # The header by itself, and programs over it, as C11 and as C++17, with gcc and, where it is there, clang: the calls, by themselves and
-# under valgrind; the examples, whose output is stored beside them; the sentences of refusals, which are those of the Rust crate. The calls
-# without a choice are the header's own: a program that was compiled with the header from before them must not link.
+# under valgrind; the examples, whose output is stored beside them; the sentences of refusals, which are those of the Rust crate; the stack
+# of each call, in the object code and as it runs. The calls without a choice are the header's own: a program that was compiled with the
+# header from before them must not link.
 # usage: run.sh FOLDER, the folder that has libcapi.a. Needs gcc, g++, python3 and valgrind.
 set -eu
 library=$1/libcapi.a
@@ -59,5 +60,8 @@ for name in {kernel,run,run_in_place,submit}_{matrix,round,oval}; do
     grep -q "undefined reference to .vokhsaot_$name'" "$work/messages" || { cat "$work/messages"; exit 1; }
 done
 
-"$here/object_code.py" "$library"
+# between its calls this program's stack pointer stays where it is
+as_c gcc -O1 -maccumulate-outgoing-args -fno-builtin "$here/stack.c" -x none "$library" -o "$work/stack"
+"$work/stack" >"$work/stack.out"
+"$here/object_code.py" "$library" "$work/stack.out"
 echo "calls, examples and sentences with: ${compilers[*]}"

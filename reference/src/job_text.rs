@@ -177,13 +177,19 @@ pub fn print(format: Format, job: &Job) -> Vec<u8> {
     (line(Some(format.letter()), &header) + &rows(job.width, &job.pixels)).into_bytes()
 }
 
-/// The greatest common divisor.
-pub fn gcd(a: u64, b: u64) -> u64 {
-    if b == 0 {
-        a
-    } else {
-        gcd(b, a % b)
+/// The greatest common divisor, by halving and subtracting: the library takes
+/// remainders.
+pub fn gcd(mut a: u64, mut b: u64) -> u64 {
+    if a == 0 || b == 0 {
+        return a | b;
     }
+    let twos = (a | b).trailing_zeros();
+    a >>= a.trailing_zeros();
+    while b != 0 {
+        b >>= b.trailing_zeros();
+        (a, b) = (a.min(b), a.abs_diff(b));
+    }
+    a << twos
 }
 
 /// The weights' sum and the nine weights, divided by their greatest common divisor.

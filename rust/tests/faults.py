@@ -1,5 +1,5 @@
 #!/usr/bin/env python3
-"""Eighty-eight faults, one at a time, in a copy of the independent program: the comparison has to find each.
+"""Ninety-one faults, one at a time, in a copy of the independent program: the comparison has to find each.
 
 Usage: faults.py FOLDER, the folder that has libcapi.a. A fault counts as found where the test named beside it fails at a
 comparison, in one of the test files or in the sentences of demand 3; a fault that the copy finds in itself does not.
@@ -52,6 +52,10 @@ FAULTS = [
      "service_lists"),
     ("a peak need not be as large as its diagonal neighbours", "extrema.rs", "*place != (x, y)", "place.0 == x || place.1 == y",
      "extrema"),
+    ("a weight of 0 leaves the divisor at 1", "job_text.rs", "        return a | b;\n", "        return if b == 0 { 1 } else { a | b };\n", "texts"),
+    ("the divisor's odd part is left in", "job_text.rs", "    a << twos\n", "    1 << twos\n", "texts"),
+    ("the divisor is the sum's and the first weight's", "job_text.rs", "numbers.into_iter().fold(0, gcd)",
+     "numbers.into_iter().take(2).fold(0, gcd)", "texts"),
     ("a leading zero is taken", "job_text.rs", "[first, ..] => *first != b'0' && digits", "[_, ..] => digits", "texts"),
     # Products that a kernel does not need, taken out where it needs them.
     ("a centre of twice a side counts once", "smooth.rs", "                .map(|((dx, dy), weight)| {\n",

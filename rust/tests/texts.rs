@@ -11,6 +11,7 @@ use reference::generate::{
 use reference::job_text::{self, answer, gcd, parse, print, Format, Job};
 use reference::kernel::Choice;
 use reference::random::Random;
+use std::collections::BTreeSet;
 use vokhsaot::{
     answer_text, convert_j_to_n, convert_j_to_n_into, convert_n_to_j, convert_n_to_j_into,
     kernel_by, smooth_by, Kernel, Shape, ANSWER_BYTES, ARCHIVED_TEXT_BYTES, CHOICE_BYTES,
@@ -347,6 +348,49 @@ fn texts_go_by_their_choice() {
         differ += u32::from(answers[0] != answers[1]);
     }
     assert!(compared > 1000 && differ > 300, "{compared} {differ}");
+}
+
+/// The common divisor of a kernel's sum and weights, which the sum of its line tells, and whether a weight is 0.
+fn divided_by(steps: u32, answer: &[u8]) -> Option<(u64, bool)> {
+    let line = String::from_utf8(answer.to_vec()).unwrap();
+    let printed = numbers(line.lines().next()?.strip_prefix("K\t")?);
+    let sum = 16384 * u64::from(steps);
+    assert_eq!(sum % printed[0], 0, "{line}");
+    Some((sum / printed[0], printed.contains(&0)))
+}
+
+/// Kernels whose sum and weights have a common divisor: of each step count, with a shape of multiples of each number that divides the
+/// largest variance. Some have weights of 0.
+#[test]
+fn printed_kernels_are_in_lowest_terms() {
+    let mut random = inputs(17);
+    let (mut divisors, mut with_zero) = (BTreeSet::new(), BTreeSet::new());
+    for steps in 1..=64 {
+        let most = 4096 * i64::from(steps);
+        for divisor in (1..=most).filter(|divisor| most % divisor == 0) {
+            let mut variance = || random.between(0, most / divisor);
+            let (a, b) = (variance(), variance());
+            let c = match random.below(3) {
+                0 => 0,
+                1 => a.min(b),
+                _ => random.between(-a.min(b), a.min(b)),
+            };
+            let (xx, xy, yy) = (a * divisor, c * divisor, b * divisor);
+            for choice in ["s", "b"] {
+                let text = format!("N\t{xx}\t{xy}\t{yy}\t{steps}\t1\t1\t{choice}\n7\n");
+                let (found, zero) = divided_by(steps, &compare(text.as_bytes())).unwrap();
+                divisors.insert(found);
+                with_zero.extend(zero.then_some(found));
+            }
+        }
+    }
+    let counts = (divisors.len(), with_zero.len());
+    assert!(counts.0 > 400 && counts.1 > 400, "{counts:?}");
+    // All but the centre is 0, so that the divisor is the sum.
+    assert_eq!(
+        compare(b"N\t0\t0\t0\t1\t1\t1\tb\n7\n"),
+        b"K\t1\t0\t0\t0\t0\t1\t0\t0\t0\t0\nP\t1\t1\n7\n"
+    );
 }
 
 /// Every length around the longest of both formats, in pictures of several forms, and the text with the most pixels.

@@ -211,7 +211,7 @@ fn version_names_the_commit() {
     };
     for option in ["--version", "-V"] {
         let text = folder.run(option, b"").text();
-        assert_eq!(text, format!("vokhsaot 0.6.0 (commit {commit})\n"));
+        assert_eq!(text, format!("vokhsaot 0.6.1 (commit {commit})\n"));
     }
 }
 

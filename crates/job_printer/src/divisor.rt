@@ -1,4 +1,4 @@
-// The greatest common divisor, by Euclid's recursion.
+// The greatest common divisor, by Euclid's loop: nothing here calls itself.
 ghost use mathlib.Core.List.{[], _∷_};
 ghost use Rattle.job_printer.specs.Divisors.{GreatestDivisor};
 use kernel::Kernel;
@@ -6,7 +6,14 @@ use kernel::Kernel;
 fn divisor(a: u64, b: u64) -> u64
     ensures { λ r. ⌜ GreatestDivisor (a ∷ b ∷ []) r ⌝ }
 {
-    if b == 0 { a } else { divisor(b, a % b) }
+    let mut found = a;
+    let mut rest = b;
+    while 0 < rest {
+        let remainder = found % rest;
+        found = rest;
+        rest = remainder;
+    }
+    found
 }
 
 // The divisor of a kernel's sum and its nine weights.
