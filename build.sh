@@ -10,8 +10,12 @@ root=$(cd "$(dirname "${BASH_SOURCE[0]}")" && pwd -P)
 cd "$root"
 log=target/build.log
 dist=target/dist
-# see library_stamp
-stamp=target/staticlib/libcapi.stamp
+library=target/staticlib/libcapi.a
+bench=crates/bench/out/bench
+# the library and the programs run on any of these processors: rt's default would ask for a newer one
+cpu=x86-64
+# see stamp_of
+stamps=target/stamps
 # made whole beside the old one, so that target/dist is never half of a build
 new=target/dist.new
 
@@ -69,7 +73,7 @@ fail() { # WHY [STATUS]
     exit "${2:-1}"
 }
 
-# The crates that capi and bench are made of, these two included.
+# The crates that capi and bench are made of, these two included, each after those below it.
 crates_needed() {
     awk '
         { sub(/#.*/, "") }
@@ -77,68 +81,75 @@ crates_needed() {
         function take(name, list, n, i) {
             if (!(name in below) || name in taken) return
             taken[name]
-            print name
             n = split(below[name], list, " ")
             for (i = 1; i <= n; i++) take(list[i])
+            print name
         }
-        END { take("capi"); take("bench") }' crates.txt
+        END { take("bench"); take("capi") }' crates.txt
 }
 
-# The next line of what rt says, into `line`. rt is silent while a large crate is proved, so each 20 seconds without a word are told.
-next_line() {
-    local piece status
-    line=
-    while true; do
-        status=0
-        IFS= read -r -t 20 piece || status=$?
-        line+=$piece
-        [ "$status" -gt 128 ] || break
-        printf 'proving: at work (%d s)\n' "$SECONDS"
+# Runs a command in a crate's folder, all that it says kept in the log. Each 20 seconds that it takes are told.
+at_work() { # CRATE COMMAND..
+    local crate=$1 status
+    shift
+    exec 3< <((cd "crates/$crate" && "$@") </dev/null >>"$log" 2>&1; echo $?)
+    until IFS= read -r -t 20 -u 3 status; do
+        [ $? -gt 128 ] || return 1
+        printf 'proving: %s, at work (%d s)\n' "$crate" "$SECONDS"
     done
-    [ "$status" -eq 0 ] || [ -n "$line" ]
+    exec 3<&-
+    return "$status"
 }
 
-# Keeps all that rt says in the log, and tells of each crate as it is proved. One that has not changed is counted alone.
-tell_proved() { # HOW MANY CRATES
-    local line count=0
-    while next_line; do
-        printf '%s\n' "$line" >>"$log"
-        [[ $line =~ ^rt:\ ([a-z_]+)\ (NOT PROVED|proved)(.*)$ ]] || continue
-        count=$((count + 1))
-        case ${BASH_REMATCH[2]}${BASH_REMATCH[3]} in
-        "proved (unchanged"*) ;;
-        proved*) printf 'proving %2d of %d: %s (%d s)\n' "$count" "$1" "${BASH_REMATCH[1]}" "$SECONDS" ;;
-        *) printf 'proving %2d of %d: %s is NOT PROVED (%d s)\n' "$count" "$1" "${BASH_REMATCH[1]}" "$SECONDS" ;;
-        esac
-    done
-}
-
-# What the library is made of, and the library. While it stays the same, the library is not made again, nor the tool that links it:
-# rt knows of other crates whether they have changed, and makes a static library each time.
-library_stamp() { # CRATE BELOW CAPI..
+# What the library or bench is made of, and itself. While it stays the same it is not made again, nor the tool that links the library: rt
+# knows of other crates whether they have changed.
+stamp_of() { # CRATE FILE BELOW..
+    local name
     {
         rt version
-        (cd target/stamp && cat -- "$@")
-        find crates/capi -type f ! -path '*/must-fail/*' -exec sha256sum {} + | sort
-        sha256sum <target/staticlib/libcapi.a
+        echo "$cpu"
+        for name in "${@:3}"; do cat -- "crates/$name/out/rlib/stamp"; done
+        find crates.txt "crates/$1" -type f ! -path '*/must-fail/*' ! -path '*/out/*' -exec sha256sum {} + | sort
+        sha256sum <"$2"
     } | sha256sum
 }
 
-# capi by itself comes last, as a static library: rt proves what is below it two or more crates at a time.
+is_made() { # CRATE FILE BELOW..
+    [ -f "$stamps/$1" ] && [ -f "$2" ] && [ "$(stamp_of "$@")" = "$(cat "$stamps/$1")" ]
+}
+
+prove_library() { # BELOW..
+    is_made capi "$library" "$@" && return
+    at_work capi rt lib --cpu "$cpu" || return 1
+    install -D -m 644 crates/capi/out/libcapi.a "$library" || return 1
+    stamp_of capi "$library" "$@" >"$stamps/capi"
+}
+
+# The program is run too, on a job whose answer is known.
+prove_bench() { # BELOW..
+    is_made bench "$bench" "$@" && return
+    at_work bench sh -c 'mkdir -p out && rt run --cpu "$0" <stdin >out/answer' "$cpu" || return 1
+    cmp crates/bench/out/answer crates/bench/stdout >>"$log" 2>&1 || fail "bench gives another answer than crates/bench/stdout"
+    stamp_of bench "$bench" "$@" >"$stamps/bench"
+}
+
+# Each crate that took a while is told; one that has not changed is counted alone.
 prove() {
-    local crates below total
+    local crates below name count=0 began
     mapfile -t crates < <(crates_needed)
-    total=${#crates[@]}
-    mapfile -t below < <(printf '%s\n' "${crates[@]}" | grep -vx capi)
-    echo "proving $total crates: the first time about 6 minutes on two cores, after that only what has changed"
-    rt check "${below[@]}" 2>&1 | tell_proved "$total" || fail "not all crates are proved"
-    if [ ! -f "$stamp" ] || [ ! -f target/staticlib/libcapi.a ] || [ "$(library_stamp "${below[@]}")" != "$(cat "$stamp")" ]; then
-        printf 'proving: capi comes last, half a minute (%d s)\n' "$SECONDS"
-        rt staticlib capi >>"$log" 2>&1 || fail "capi is not proved"
-        library_stamp "${below[@]}" >"$stamp"
-        printf 'proving %2d of %d: capi (%d s)\n' "$total" "$total" "$SECONDS"
-    fi
-    echo "all $total crates are proved ($SECONDS s)"
+    mapfile -t below < <(printf '%s\n' "${crates[@]}" | grep -vxE 'capi|bench')
+    echo "proving ${#crates[@]} crates: the first time takes minutes, after that only what has changed is proved"
+    for name in "${crates[@]}"; do
+        count=$((count + 1))
+        began=$SECONDS
+        case $name in
+        capi) prove_library "${below[@]}" ;;
+        bench) prove_bench "${below[@]}" ;;
+        *) at_work "$name" rt lib ;;
+        esac || fail "$name is not proved"
+        [ $((SECONDS - began)) -lt 3 ] || printf 'proving %2d of %d: %s (%d s)\n' "$count" "${#crates[@]}" "$name" "$SECONDS"
+    done
+    echo "all ${#crates[@]} crates are proved ($SECONDS s)"
 }
 
 # ---- building
@@ -149,7 +160,7 @@ version_of_header() {
 
 # The static library as rt wrote it, and the shared one of the same proved object, which is position-independent, and of nothing else.
 build_libraries() {
-    install -D -m 644 target/staticlib/libcapi.a "$new/lib/libvokhsaot.a"
+    install -D -m 644 "$library" "$new/lib/libvokhsaot.a"
     gcc -shared -nostartfiles -Wl,-soname,"libvokhsaot.so.$major.$minor" -Wl,--version-script=c/exports.map -Wl,-z,defs,-z,relro,-z,now \
         -Wl,--fatal-warnings -Wl,--whole-archive "$new/lib/libvokhsaot.a" -Wl,--no-whole-archive \
         -o "$new/lib/libvokhsaot.so.$version" >>"$log" 2>&1 || fail "the shared library is not linked"
@@ -175,7 +186,7 @@ build_programs() {
     export CARGO_TARGET_DIR=$root/target/cargo VOKHSAOT_LIB_DIR=$root/target/staticlib
     cargo build --release --offline --manifest-path tool/Cargo.toml >>"$log" 2>&1 || fail "the tool is not built"
     install -D -m 755 target/cargo/release/vokhsaot "$new/bin/vokhsaot"
-    install -D -m 755 target/bin/bench "$new/bin/bench"
+    install -D -m 755 "$bench" "$new/bin/bench"
 }
 
 # What the tool says of itself for man and for the shells.
@@ -190,7 +201,7 @@ build_shared_files() {
     } 2>>"$log" || fail "the tool does not print its manual or completions"
 }
 
-mkdir -p target
+mkdir -p target "$stamps"
 : >"$log"
 check_commands
 check_packages

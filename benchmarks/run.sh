@@ -14,8 +14,8 @@ here=$(cd "$(dirname "$0")" && pwd -P)
 root=$(dirname "$here")
 work=$root/target/benchmarks
 mkdir -p "$work"
-(cd "$root" && rt staticlib capi >"$work/staticlib.log" 2>&1) || { tail -n 20 "$work/staticlib.log"; exit 1; }
-(cd "$root" && rt check bench >"$work/bench.log" 2>&1) || { tail -n 20 "$work/bench.log"; exit 1; }
+(cd "$root/crates/capi" && rt lib --cpu x86-64 >"$work/capi.log" 2>&1) || { tail -n 20 "$work/capi.log"; exit 1; }
+(cd "$root/crates/bench" && rt run --cpu x86-64 <stdin >"$work/bench.log" 2>&1) || { tail -n 20 "$work/bench.log"; exit 1; }
 
 # One shared library for each way to compile the C, and for the other version.
 build() { # NAME LIBRARY FLAGS..
@@ -23,7 +23,7 @@ build() { # NAME LIBRARY FLAGS..
     shift 2
     gcc -O3 -march=x86-64 -fPIC "$@" -shared -I "$root/c/include" "$here/peers.c" "$library" -o "$work/$name.so"
 }
-own=$root/target/staticlib/libcapi.a
+own=$root/crates/capi/out/libcapi.a
 build vector "$own"
 build scalar "$own" -fno-tree-vectorize
 rm -f "$work/other.so"
@@ -36,4 +36,4 @@ if [ $# -gt 0 ]; then
     has vokhsaot_run_in_place_matrix_by || set -- "$@" -DBEFORE_IN_PLACE
     build other "$other" "$@"
 fi
-exec /usr/bin/python3 "$here/measure.py" "$work" "$root/target/bin/bench"
+exec /usr/bin/python3 "$here/measure.py" "$work" "$root/crates/bench/out/bench"

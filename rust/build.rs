@@ -1,5 +1,5 @@
-//! Finds the proved static library and links it: `libvokhsaot.a`, as it is installed, or `libcapi.a`, as `rt staticlib capi`
-//! writes it. `VOKHSAOT_LIB_DIR` names its folder; without it, it is looked for in the repository's `target`.
+//! Finds the proved static library and links it: `libvokhsaot.a`, as it is installed, or `libcapi.a`, as `rt lib` writes it in
+//! `crates/capi`. `VOKHSAOT_LIB_DIR` names its folder; without it, it is looked for in the repository.
 
 use std::env;
 use std::path::{Path, PathBuf};
@@ -10,7 +10,7 @@ use std::time::SystemTime;
 const NAMES: [&str; 2] = ["vokhsaot", "capi"];
 
 /// Where the repository has it, below its root.
-const BUILT: [&str; 2] = ["target/dist/lib", "target/staticlib"];
+const BUILT: [&str; 2] = ["target/dist/lib", "crates/capi/out"];
 
 /// A library that was found.
 struct Library {

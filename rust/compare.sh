@@ -4,7 +4,7 @@
 set -eu
 cd "$(dirname "$0")/.."
 export VOKHSAOT_SEED=${1:-$(date +%s)} VOKHSAOT_TIMES=${2:-100}
-export CARGO_TARGET_DIR=$PWD/target/cargo VOKHSAOT_LIB_DIR=$PWD/target/staticlib
+export CARGO_TARGET_DIR=$PWD/target/cargo VOKHSAOT_LIB_DIR=$PWD/crates/capi/out
 echo "seed $VOKHSAOT_SEED, $VOKHSAOT_TIMES times the inputs"
-rt staticlib capi
+(cd crates/capi && rt lib --cpu x86-64)
 cargo test --release --offline --manifest-path rust/Cargo.toml

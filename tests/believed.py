@@ -19,13 +19,13 @@ INNER = {"row_core", "stepping", "in_place", "slots", "buffers", "record_words",
 
 # What the theorems say that no contract cites: crate, and the definition that a statement is made of.
 THEOREMS = [
-    ("kernel", "Weights"), ("kernel", "Sound"), ("kernel", "RatioOfTwo"), ("averaging", "Distance"), ("averaging", "Entrywise"), ("averaging", "exactOf"),
-    ("averaging", "brightness"), ("averaging", "BrightSpots"), ("covariance", "WithinHalfUnit"), ("covariance", "alongX"), ("covariance", "alongY"),
-    ("covariance", "covarianceNumber"), ("covariance", "covarianceValues"), ("differences", "CloseTo"),
-    ("differences", "unitsPerStep"), ("differences", "IsWhole"), ("differences", "turnedBy"), ("job_printer", "GreatestDivisor"),
+    ("kernel", "Weights"), ("kernel", "Sound"), ("kernel", "RatioOfTwo"), ("averaging", "Distance"), ("averaging", "Entrywise"), ("averaging", "exact_of"),
+    ("averaging", "brightness"), ("averaging", "BrightSpots"), ("covariance", "WithinHalfUnit"), ("covariance", "along_x"), ("covariance", "along_y"),
+    ("covariance", "covariance_number"), ("covariance", "covariance_values"), ("differences", "CloseTo"),
+    ("differences", "units_per_step"), ("differences", "IsWhole"), ("differences", "turned_by"), ("job_printer", "GreatestDivisor"),
     ("job_parser", "IsText"), ("machine", "Demand3"), ("machine", "Workable"), ("machine", "Demand3InNumbers"), ("machine", "CallsInNumbers"),
-    ("machine", "ElevenExactly"), ("machine", "TickEnhancesNone"), ("machine", "Collected"), ("machine", "jobCollected"),
-    ("machine", "pictureCollected"), ("word_calls", "ExportedDemand3"),
+    ("machine", "ElevenExactly"), ("machine", "TickEnhancesNone"), ("machine", "Collected"), ("machine", "job_collected"),
+    ("machine", "picture_collected"), ("word_calls", "ExportedDemand3"),
 ]
 
 WORD = re.compile(r"[^\s(){};,.λ→]+")
@@ -33,7 +33,7 @@ WORD = re.compile(r"[^\s(){};,.λ→]+")
 
 def crates():
     lines = [line.split("#")[0].strip() for line in (ROOT / "crates.txt").read_text().splitlines()]
-    return [line.split(":")[0] for line in lines if line]
+    return [line.split(":")[0].split()[0] for line in lines if line]
 
 
 def code_of(text):
@@ -65,7 +65,7 @@ def imported(text):
     """{name as written: (crate, file, name)} of what a file takes from specs/."""
     names = {}
     for module, listed in re.findall(r"(?m)^(?:ghost )?use (\S+?)\.\{([^}]*)\}", text):
-        match = re.fullmatch(r"Rattle·(\w+?)(?:·specs)?\.specs\.([\w.]+)", module)
+        match = re.fullmatch(r"Rattle\.(\w+)\.specs\.([\w.]+)", module)
         if match:
             for item in listed.split(","):
                 parts = item.strip().split(" as ")
@@ -78,7 +78,7 @@ def words(text):
 
 
 def mentions(name, seen):
-    return name in seen or (name.startswith("_") and name.strip("_") in seen)
+    return name in seen or (name.startswith("◌") and name.strip("◌") in seen)
 
 
 class Specs:
@@ -119,7 +119,7 @@ def contract_roots():
                 part = text[head.start():after.start() if after else len(text)]
                 if head[1]:
                     seen = words(" ".join(re.findall(r"ensures[^{]*(\{(?:[^{}]|\{[^{}]*\})*\})", part)))
-                    roots |= {place for word, place in scope.items() if word in seen}
+                    roots |= {place for word, place in scope.items() if mentions(word, seen)}
     return roots
 
 

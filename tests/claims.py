@@ -77,14 +77,14 @@ def repository() -> tuple[set[str], set[str]]:
     has a line '# LABEL' for each."""
     paths, words = set(), set()
     for path in ROOT.rglob("*"):
-        if {"target", ".git"} & set(path.relative_to(ROOT).parts) or path == CLAIMS:
+        if {"target", ".git", "out"} & set(path.relative_to(ROOT).parts) or path == CLAIMS:
             continue
         name = str(path.relative_to(ROOT))
         paths |= {name, name.removeprefix("crates/")}
         words |= {path.name, path.stem}
         if path.is_file() and path.suffix in SOURCES | {""}:
             text = path.read_text(errors="ignore")
-            words |= set(re.findall(r"[\w'·-]+", text)) | set(re.findall(r"[\w']+", text))
+            words |= set(re.findall(r"[\w'-]+", text)) | set(re.findall(r"[\w']+", text)) | set(re.findall(r"◌\w+◌", text))
             if path.suffix == ".edit":
                 labels = [str(path.relative_to(ROOT).parent / label) for label in re.findall(r"^# (\w+)$", text, re.MULTILINE)]
                 paths |= {label.removeprefix("crates/") for label in labels}

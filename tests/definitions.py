@@ -10,7 +10,7 @@ usage: tests/definitions.py [OPTION..] CRATE..
   --seed N       which ones (default 1)
   --jobs N       copies worked on at a time (default 1)
   --seconds N    begin no mutant after so many seconds; what was tried is in the log, and a second run goes on from there
-  --work FOLDER  where the copies and the log stand (default: target/definitions)
+  --work FOLDER  where the log stands (default: target/definitions); the copies stand outside the repository while it runs
   --self-test    check the making of mutants on a small text, and try none
 
 A mutant differs from a definition in one place: a number one more or less, another operator or test, another argument or field of
@@ -35,6 +35,7 @@ import re
 import shutil
 import subprocess
 import sys
+import tempfile
 import threading
 import time
 
@@ -54,9 +55,10 @@ def write(path, text):
 
 # ---- the copy without code
 
-MODULE = re.compile(r"Rattle·(\w+?)(?:·(?:specs|proofs))?\.(specs|proofs)\.([\w+]+)")
-ITEM = re.compile(r"(?:pub )?(?:struct|enum|const|type|mod) ")
-USE = re.compile(r"(?:pub )?use [\w:]*::([A-Z]\w*);")
+MODULE = re.compile(r"Rattle\.(\w+)\.(specs|proofs)\.([\w+]+)")
+ATTRIBUTES = r"(?:#!?\[[^\]]*\]\s*)*"
+ITEM = re.compile(ATTRIBUTES + r"(?:pub )?(?:struct|enum|const|type|mod) ")
+USE = re.compile(ATTRIBUTES + r"((?:pub )?use [\w:]*::)(?:([A-Z]\w*);|\{([^}]*)\}$)")
 
 
 def items_of(text):
@@ -73,8 +75,15 @@ def items_of(text):
 
 
 def types_of(text):
-    """The types, constants and modules of a file of code."""
-    return "\n".join(item for item in items_of(text) if ITEM.match(item) or USE.match(item)) + "\n"
+    """The types, constants and modules of a file of code, and what it takes of those of others."""
+    found = []
+    for item in items_of(text):
+        if ITEM.match(item):
+            found.append(item)
+        elif taken := USE.match(item):
+            names = [name.strip() for name in (taken[2] or taken[3]).split(",")]
+            found += [f"{taken[1]}{name};" for name in names if name[:1].isupper()]
+    return "\n".join(found) + "\n"
 
 
 class Repository:
@@ -84,7 +93,7 @@ class Repository:
     def __init__(self, root):
         self.root, self.below = root, {}
         for line in read(os.path.join(root, "crates.txt")).splitlines():
-            name, colon, below = line.split("#")[0].partition(":")
+            name, colon, below = line.split("#")[0].partition(":")  # (a static library has "staticlib" after its name, and no law of others)
             if colon and os.path.exists(os.path.join(root, "crates", name.strip(), "src", "lib.rt")):
                 self.below[name.strip()] = below.split()
         self.crates = []
@@ -136,7 +145,7 @@ class Repository:
                 write(os.path.join(folder, "crates", crate, "src", file), types_of(text))
         for (crate, part, file), text in self.files.items():
             if part == "proofs" and file == "Lib.antt":
-                modules = [x[8:].strip() for x in text.split("\n") if x.startswith("pub mod ")]
+                modules = re.findall(r"(?m)^(?:pub )?mod (\S+)", text)
                 kept = [f"pub mod {m}\n" for m in modules if (crate, part, m + ".antt") in self.files]
                 if not kept:
                     continue
@@ -146,22 +155,23 @@ class Repository:
 
 # ---- definitions and their mutants
 
-WORD = re.compile(r"--[^\n]*|[(){};,]|[^\s(){};,]+")
+# a field stands right behind its record and a dot; a dot before a blank ends a λ
+WORD = re.compile(r"--[^\n]*|[(){};,]|(?<=[^\s({;,])\.[^\s(){};,.]+|[^\s(){};,.]+\.(?=\s)|[^\s(){};,.]+|\.+")
 HEAD = re.compile(r"((?:abbrev |unfoldable |pub )*)(\S+) :\s")
 RECORD = re.compile(r"(?:pub )?record (\S+)")
+PRELUDE, FLOATS = "Rattle.std.specs.Prelude", "lib.Ieee"
 OTHERS = {  # a word, another one, and where that is imported from
-    "+": ("-", "Prim.Native.Nat"), "-": ("+", "Prim.Native.Nat"), "*": ("+", "Prim.Native.Nat"), "/": ("%", "Prim.Native.Nat"),
-    "%": ("/", "Prim.Native.Nat"), "^": ("*", "Prim.Native.Nat"), "≤": ("<", "Prim.Native.Nat"), "<": ("≤", "Prim.Native.Nat"),
-    "+ℤ": ("-ℤ", "lib.IntN"), "-ℤ": ("+ℤ", "lib.IntN"), "*ℤ": ("+ℤ", "lib.IntN"), "pos": ("negsuc", "lib.IntN"),
-    "&&": ("||", "mathlib.Core.Bool"), "||": ("&&", "mathlib.Core.Bool"), "true": ("false", "mathlib.Core.Bool"),
-    "false": ("true", "mathlib.Core.Bool"), "leb": ("ltb", "lib.Dec"), "ltb": ("leb", "lib.Dec"), "eqb": ("leb", "lib.Dec"),
-    "up": ("down", "lib.Ieee"), "down": ("up", "lib.Ieee"), "add": ("sub", "lib.Ieee"), "sub": ("add", "lib.Ieee"),
-    "take": ("drop", "lib.ListN"), "drop": ("take", "lib.ListN"),
+    **{word: (other, PRELUDE) for word, other in [
+        ("+", "-"), ("-", "+"), ("*", "+"), ("/", "%"), ("%", "/"), ("^", "*"), ("≤", "<"), ("<", "≤"), ("+ℤ", "-ℤ"), ("-ℤ", "+ℤ"), ("*ℤ", "+ℤ"),
+        ("pos", "negsuc"), ("&&", "||"), ("||", "&&"), ("true", "false"), ("false", "true"), ("leb", "ltb"), ("ltb", "leb"), ("eqb", "leb"),
+        ("take", "drop"), ("drop", "take"),
+    ]},
+    **{word: (other, FLOATS) for word, other in [("up", "down"), ("down", "up"), ("add", "sub"), ("sub", "add")]},
 }
 OPERATORS = {w for w in OTHERS if not w[0].isalpha()} | set("≡ → × ∷ ++ ⊎ ↔ ∣ = otherwise : | λ ⊕ ⊖ ⊗".split())
 # the types of the arguments of functions of the library, two of which can be exchanged
 KNOWN = {"cond": ["Bool", "A", "A"], "le": ["Float", "Float"], "sub": ["Float", "Float"]}
-KNOWN |= {name: ["ℕ", "ℕ"] for name in ("leb", "ltb")} | {name: ["ℤ", "ℤ"] for name in ("ltZ", "leZ")}
+KNOWN |= {name: ["ℕ", "ℕ"] for name in ("leb", "ltb")} | {name: ["ℤ", "ℤ"] for name in ("lt_z", "le_z")}
 MACHINE_TYPES = {name: "ℕ" for name in ("u8", "u16", "u32", "u64", "usize")}
 MACHINE_TYPES |= {"i32": "ℤ", "i64": "ℤ", "f64": "Float", "bool": "Bool"}
 
@@ -283,7 +293,7 @@ class Theory:
 
     def learn_types(self, text):
         for item in items_of(text):
-            m = re.match(r"(?:pub )?(struct|enum) (\w+)(?:<[^>]*>)? *\{(.*)\}", item, re.S)
+            m = re.match(ATTRIBUTES + r"(?:pub )?(struct|enum) (\w+)(?:<[^>]*>)? *\{(.*)\}", item, re.S)
             if m and m[1] == "struct":
                 fields = re.findall(r"(\w+): ([^,\n]+)", m[3])
                 self.records.append((m[2], {name: MACHINE_TYPES.get(kind.strip(), kind.strip()) for name, kind in fields}))
@@ -324,7 +334,7 @@ class Theory:
                     laws.add(key)
                     grown = True
                 if key[1] == "specs":
-                    near = taken | {n.strip("_") for n in taken}
+                    near = taken | {n.strip("◌") for n in taken}
                     for where, named in words.items():
                         if where[:2] == (key[0], key[2]) and where not in reached and (named & near or whole):
                             reached.add(where)
@@ -337,8 +347,8 @@ class Mutant:
         self.definition, self.kind, self.old, self.new = definition, kind, text[start:end], new
         self.line = text.count("\n", 0, start) + 1
         wrong = text[:start] + new + text[end:]
-        if module and not re.search(r"(?m)^use .*[{ ]_?" + re.escape(new) + r"_?[,}]", text):
-            name = new if new[0].isalpha() else f"_{new}_"
+        if module and not re.search(r"(?m)^use .*[{ ]◌?" + re.escape(new) + r"◌?[,}]", text):
+            name = new if new[0].isalpha() else f"◌{new}◌"
             at = re.search(r"(?m)^use ", wrong)
             place = at.start() if at else 0
             wrong = wrong[:place] + f"use {module}.{{{name}}}\n" + wrong[place:]
@@ -440,8 +450,7 @@ def exchange_fields(theory, text, group, add):
 
 
 def check(folder, crate):
-    environment = dict(os.environ, RT_JOBS="1")
-    done = subprocess.run(["rt", "check", crate], cwd=folder, env=environment, stdout=subprocess.PIPE, stderr=subprocess.STDOUT)
+    done = subprocess.run(["rt", "check"], cwd=os.path.join(folder, "crates", crate), stdin=subprocess.DEVNULL, stdout=subprocess.PIPE, stderr=subprocess.STDOUT)
     return done.returncode, done.stdout.decode("utf-8", "replace")
 
 
@@ -467,16 +476,20 @@ def try_all(theory, todo, options):
     log = os.path.join(options.work, "log.jsonl")
     os.makedirs(options.work, exist_ok=True)
     known = {r["key"]: r for r in map(json.loads, read(log).splitlines())} if os.path.exists(log) else {}
-    results, lock, end, queue = [], threading.Lock(), time.time() + options.seconds, list(todo)
+    results, lock, end, queue, stopped = [], threading.Lock(), time.time() + options.seconds, list(todo), []
+    # (rt ci refuses files of Rattle beside the crates; the name is always the same, since rt notes where work was kept)
+    copies = os.path.join(tempfile.gettempdir(), "vokhsaot-definitions-" + hashlib.sha256(ROOT.encode()).hexdigest()[:12])
+    shutil.rmtree(copies, ignore_errors=True)
 
     def worker(number):
-        folder = os.path.join(options.work, f"copy-{number}")
+        folder = os.path.join(copies, f"copy-{number}")
         with lock:
             theory.repository.without_code(folder)
         for crate in options.crates:
             status, said = check(folder, crate)
             if status:
-                raise SystemExit(f"definitions: {crate} is not proved without its code\n{said[-2000:]}")
+                stopped.append(f"definitions: {crate} is not proved without its code\n{said[-2000:]}")
+                return
         while True:
             with lock:
                 if not queue or time.time() > end:
@@ -505,6 +518,9 @@ def try_all(theory, todo, options):
         t.start()
     for t in threads:
         t.join()
+    shutil.rmtree(copies, ignore_errors=True)
+    if stopped:
+        sys.exit(stopped[0])
     verdicts = ["pinned", "unpinned", "no definition", "unclear"]
     print("\n| crate | definitions | tried | " + " | ".join(verdicts) + " |\n|---|---|---|---|---|---|---|")
     for crate in options.crates:
@@ -515,13 +531,13 @@ def try_all(theory, todo, options):
 
 
 EXAMPLE = """-- An example. Definitions only.
-use Prim.Native.Nat.{ℕ, _+_}
+use Rattle.std.specs.Prelude.{ℕ, ◌+◌}
 abbrev pub most : ℕ
 most = 8
 
 -- a comment: 7
 unfoldable pub area : Box → (w h : ℕ) → ℕ
-area b w h = cond (leb w h) (b .wide + h) (most)
+area b w h = cond (leb w h) (b.wide + h) (most)
 
 abbrev pub box : ℕ → ℕ → List Kind → Box
 box w h (Tall ∷ Flat ∷ kinds) = record { wide = w; high = h }
@@ -529,7 +545,7 @@ box w h (Tall ∷ Flat ∷ kinds) = record { wide = w; high = h }
 WANTED = {
     "most: number: 8 -> 9", "most: number: 8 -> 7", "area: word: leb -> ltb", "area: argument: w -> h", "area: argument: h -> w",
     "area: field: .wide -> .high", "area: operator: + -> -", "area: exchanged: w h -> h w",
-    "area: exchanged: (b .wide + h) (most) -> (most) (b .wide + h)", "box: argument: w -> h", "box: argument: h -> w",
+    "area: exchanged: (b.wide + h) (most) -> (most) (b.wide + h)", "box: argument: w -> h", "box: argument: h -> w",
     "box: fields: w; high = h -> h; high = w",
 }
 

@@ -7,19 +7,18 @@ usage: tests/mutants.py [OPTION..] CRATE..
   --only REGEX   only in functions and constants whose name the expression matches whole
   --most N       at most N mutants of a crate (default: all that are made)
   --seed N       which ones, where there are more, and in what order (default 1)
-  --jobs N       copies worked on at a time (default 1)
+  --jobs N       how many are tried at a time (default 1)
   --seconds N    begin no mutant after so many seconds; what was tried is in the log, and a second run goes on from there
-  --work FOLDER  where the copies and the log stand (default: target/mutants)
+  --work FOLDER  where the log stands (default: target/mutants)
   --self-test    check the making of mutants on a small text, and try none
 
 A mutant differs from the code in one place: another comparison or operator, a number one more or less, another value of an enum,
 another parameter or field of the same type, two arguments exchanged, a test turned round, a statement left out. Only bodies of
 functions and values of constants are changed, never a contract, a definition or a proof.
 
-Each is checked in a copy of the repository with `rt dev`, over the crate's incremental folder; what is accepted there is checked
-again from nothing with `rt check`. Verdicts:
+Each is checked in a copy of its crate, over what `rt check` kept of it; what is accepted there is checked again from nothing. Verdicts:
   refused      a fact that a contract asks for has no proof
-  misfit       a proof file no longer fits the code; this says nothing of the contract
+  misfit       a proof file no longer fits the code, or the prover met a limit of its own; this says nothing of the contract
   no program   the mutant does not compile
   survived     proved: a wrong program that the contract allows, unless it answers as before. A person looks at each
 The rows of docs/MUTANTS.md stand at the end. The log is WORK/log.jsonl, a line for each mutant; a mutant that is in it, made from
@@ -32,11 +31,10 @@ import json
 import os
 import random
 import re
-import shutil
-import subprocess
 import sys
 import threading
 import time
+import prover
 
 ROOT = os.path.dirname(os.path.dirname(os.path.abspath(__file__)))
 
@@ -117,9 +115,12 @@ def pieces_of(tokens):
             parameters = typed(tokens, at + 1, end)
             i = end + 1
             while i < len(tokens) and tokens[i].text not in ("{", ";"):
-                i = closing(tokens, i) + 1 if tokens[i].text == "[" else i + 1  # an array's length comes after a semicolon
-                if tokens[i - 1].text in ("requires", "ensures") and tokens[i].text == "{":
+                if tokens[i].text in ("requires", "ensures"):
+                    while tokens[i].text != "{":  # the clause's name
+                        i += 1
                     i = closing(tokens, i) + 1
+                else:
+                    i = closing(tokens, i) + 1 if tokens[i].text == "[" else i + 1  # an array's length comes after a semicolon
             if i < len(tokens) and tokens[i].text == "{":
                 end = closing(tokens, i)
                 found.append(Piece(name, i + 1, end, parameters))
@@ -141,6 +142,8 @@ class Repository:
     def __init__(self, root):
         self.root, self.sources, self.structs, self.enums, self.functions = root, {}, [], [], {}
         for folder, _, files in sorted(os.walk(os.path.join(root, "crates"))):
+            if os.path.relpath(folder, root).split(os.sep)[2:3] != ["src"]:
+                continue
             for file in sorted(f for f in files if f.endswith(".rt")):
                 path = os.path.relpath(os.path.join(folder, file), root)
                 with open(os.path.join(root, path), encoding="utf-8") as f:
@@ -267,47 +270,29 @@ def statements(tokens, piece):
 # ---- trying them
 
 
-def run(words, folder):
-    environment = dict(os.environ, RT_JOBS="1")
-    done = subprocess.run(words, cwd=folder, env=environment, stdout=subprocess.PIPE, stderr=subprocess.STDOUT)
-    return done.returncode, done.stdout.decode("utf-8", "replace")
+# The words of an error of a proof that names what is not there.
+MISSING = ("can be named from here", "is not in scope", "has no field", "was not admitted")
 
 
-def copy_of(root, folder):
-    """A copy of the crates, with what is already proved of them."""
-    if not os.path.isdir(folder):
-        os.makedirs(folder)
-        shutil.copytree(os.path.join(root, "crates"), os.path.join(folder, "crates"))
-        shutil.copy(os.path.join(root, "crates.txt"), folder)
-        for part in ("rlib", "stamp", "inc", "obj"):
-            if os.path.isdir(os.path.join(root, "target", part)):
-                shutil.copytree(os.path.join(root, "target", part), os.path.join(folder, "target", part))
-    else:
-        shutil.rmtree(os.path.join(folder, "crates"))
-        shutil.copytree(os.path.join(root, "crates"), os.path.join(folder, "crates"))
-        shutil.copy(os.path.join(root, "crates.txt"), folder)
+def judged(said, status):
+    """What is said of a mutant: its verdict, but for one that is proved, and the line that tells why."""
+    lines = said.splitlines()
+    errors = [line for line in lines if ": error: " in line and not re.search(r"error: \d+ declarations? that depends? on ", line)]
+    why = (errors or [line for line in lines if "`search` did not prove" in line] or [line for line in lines if "error" in line] or [""])[0][:300]
+    if status == 3:
+        return "misfit", why
+    if "logic=not-proved" not in said:
+        return "no program", why
+    return ("misfit" if any(words in why for words in MISSING) else "refused"), why
 
 
-def verdict(folder, mutant):
-    path = os.path.join(folder, mutant.path)
-    with open(path, encoding="utf-8") as f:
-        right = f.read()
-    try:
-        with open(path, "w", encoding="utf-8") as f:
-            f.write(mutant.wrong)
-        status, said = run(["rt", "dev", mutant.crate], folder)
-        if status == 0:
-            status, said = run(["rt", "check", mutant.crate], folder)
-        if status == 0:
-            return "survived", ""
-        errors = [line for line in said.splitlines() if ": error: " in line]
-        if "logic=not-proved" not in said:
-            return "no program", (errors or [""])[0][:300]
-        first = errors[0] if errors else ""
-        return ("misfit" if "can be named from here" in first else "refused"), first[:300]
-    finally:
-        with open(path, "w", encoding="utf-8") as f:
-            f.write(right)
+def verdict(proofs, mutant):
+    texts = {os.path.relpath(mutant.path, os.path.join("crates", mutant.crate)): mutant.wrong}
+    for kept in (True, False):
+        said, status = proofs.said(mutant.crate, texts, kept)
+        if status:
+            return judged(said, status)
+    return "survived", ""
 
 
 def row(crate, results):
@@ -322,26 +307,21 @@ def try_all(crates, chosen, options):
     if os.path.exists(log):
         with open(log, encoding="utf-8") as f:
             known = {r["key"]: r for r in map(json.loads, f)}
+    proofs = prover.Prover(ROOT)
     for crate in crates:
-        status, said = run(["rt", "check", crate], ROOT)
-        if status:
-            sys.exit(f"mutants: {crate} is not proved as it stands\n{said[-2000:]}")
+        if why := proofs.prove(crate):
+            sys.exit(f"mutants: {why}")
     todo = [m for m in chosen if m.key not in known]
     print(f"mutants: {len(chosen)} chosen, {len(chosen) - len(todo)} of them in the log", flush=True)
     lock, end = threading.Lock(), time.time() + options.seconds
 
-    def worker(number):
-        folder = os.path.join(options.work, f"copy-{number}")
-        ready = False
+    def worker():
         while True:
             with lock:
                 if not todo or time.time() > end:
                     return
                 mutant = todo.pop(0)
-                if not ready:
-                    copy_of(ROOT, folder)
-                    ready = True
-            said, why = verdict(folder, mutant)
+            said, why = verdict(proofs, mutant)
             with lock:
                 result = {"key": mutant.key, "crate": mutant.crate, "mutant": mutant.words(), "verdict": said, "error": why}
                 known[mutant.key] = result
@@ -349,7 +329,7 @@ def try_all(crates, chosen, options):
                     f.write(json.dumps(result, ensure_ascii=False) + "\n")
                 print(f"{said}: {mutant.words()}", flush=True)
 
-    threads = [threading.Thread(target=worker, args=(n,)) for n in range(options.jobs)]
+    threads = [threading.Thread(target=worker) for _ in range(options.jobs)]
     for t in threads:
         t.start()
     for t in threads:
@@ -368,7 +348,8 @@ pub struct Box { pub wide: u32, pub high: u32, pub name: u64 }
 pub enum Kind { Flat, Tall }
 const MOST: u32 = 8;
 pub fn area(wide: u32, high: u32) -> u32
-    requires { λ wide < 3 }
+    requires narrow { wide < 3 }
+    ensures { result < 3 }
 {
     wide * high
 }
@@ -380,7 +361,8 @@ fn kind(b: Box, least: u32) -> Kind
     if a < MOST { Kind::Flat } else { Kind::Tall }
 }
 fn pair(least: u32) -> [u32; 2]
-    ensures { λ r }
+    ensures first { result }
+    ensures second { result < 7 }
 {
     [least; 3]
 }
@@ -392,6 +374,16 @@ WANTED = {
 }
 
 
+# What the prover says, its status, and the verdict.
+SAID = [
+    ("refused", "fn c::f: no proof: expected answers in ./proofs/f/Answers.antt; `search` did not prove `returns`\nlogic=not-proved", 1),
+    ("refused", "./proofs/f/Answers.antt:3:1: error: `returns`: the two types differ\nlogic=not-proved", 1),
+    ("misfit", "./proofs/f/Answers.antt:3:1: error: `returns`: module `G` has no `returns` that can be named from here\nlogic=not-proved", 1),
+    ("misfit", "rattle: no verdict: antt ran out of stack", 3),
+    ("no program", "error[unknown-name]: nothing is called g", 1),
+]
+
+
 def self_test():
     repository = Repository(ROOT)
     repository.structs, repository.enums, repository.functions = [], [], {}
@@ -399,6 +391,9 @@ def self_test():
     made = {m.words().split(" ", 2)[2] for m in mutants_of(repository, "crates/example/src/lib.rt", EXAMPLE)}
     if made != WANTED:
         sys.exit(f"mutants: the example makes {sorted(made - WANTED)} too, and {sorted(WANTED - made)} not")
+    for wanted, said, status in SAID:
+        if judged(said, status)[0] != wanted:
+            sys.exit(f"mutants: {judged(said, status)} of {said}, and not {wanted}")
     print(f"mutants: {len(made)} kinds of change in the example, as wanted")
 
 

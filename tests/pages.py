@@ -274,7 +274,7 @@ def sources_of(root: pathlib.Path) -> list[str]:
     for folder in SOURCES:
         found += [path for path in (root / folder).rglob("*") if path.is_file()]
     names = [path.relative_to(root) for path in found]
-    return sorted(str(name) for name in names if not {"target", "__pycache__"} & set(name.parts))
+    return sorted(str(name) for name in names if not {"target", "__pycache__", "out"} & set(name.parts))
 
 
 def check_texts(root: pathlib.Path, report: Report, only: list[str]) -> None:

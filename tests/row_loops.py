@@ -1,7 +1,7 @@
 #!/usr/bin/env python3
 """The loops over a row in the object code: each kind of kernel has one, vectorised, with no more multiplications than its products.
 
-usage: tests/row_loops.py LIBRARY      LIBRARY is the libcapi.a that `rt staticlib capi` writes
+usage: tests/row_loops.py LIBRARY      LIBRARY is the libcapi.a that build.sh writes
        tests/row_loops.py --self-test  read a few lines whose loops are known, and no library
 
 The proved code has one loop over a row, in which every product stands. It is called once for each kind of kernel, with a constant 0 for

@@ -1,5 +1,7 @@
 //! Tells the tool which commit it is built from, for `--version`, the manual and reports.
 
+use std::fs;
+use std::path::PathBuf;
 use std::process::Command;
 
 /// What the tool is made of. What else changes in the repository does not make it another tool.
@@ -32,13 +34,26 @@ fn commit() -> Option<String> {
     })
 }
 
+/// The files and folders whose change is one of a source: of `../crates` the parts of each crate, without what the prover keeps in its `out`.
+fn watched(source: &str) -> Vec<PathBuf> {
+    if source != "../crates" {
+        return vec![source.into()];
+    }
+    let entries = |folder: PathBuf| fs::read_dir(folder).into_iter().flatten().flatten();
+    let parts = entries(source.into()).flat_map(|one| entries(one.path()));
+    parts
+        .filter(|part| part.file_name() != "out")
+        .map(|part| part.path())
+        .collect()
+}
+
 fn main() {
     let commit = commit().unwrap_or_else(|| "unknown".to_owned());
     println!("cargo:rustc-env=VOKHSAOT_COMMIT={commit}");
     let date = git(&["log", "-1", "--format=%cs"]).unwrap_or_default();
     println!("cargo:rustc-env=VOKHSAOT_DATE={date}");
-    for source in SOURCES {
-        println!("cargo:rerun-if-changed={source}");
+    for path in SOURCES.iter().flat_map(|source| watched(source)) {
+        println!("cargo:rerun-if-changed={}", path.display());
     }
     // HEAD's log has a line for each commit and checkout.
     for file in ["HEAD", "index", "logs/HEAD"] {

@@ -27,7 +27,7 @@ import textwrap
 HEADER = pathlib.Path(__file__).resolve().parents[1] / "include" / "vokhsaot.h"
 
 NEEDED = {"memcpy", "memset"}
-# In bytes: what a call pushes, what a function that calls nothing may use below its frame, and what a large frame is taken by.
+# In bytes: what a call pushes, what a function that calls nothing may use below its frame, and a page: a larger frame is taken in a loop.
 RETURN_ADDRESS, RED_ZONE, PAGE = 8, 128, 4096
 INDEPENDENT = {"R_X86_64_PC32", "R_X86_64_PLT32"}
 # The two saved lines of a run within one picture, 1024 pixels of two bytes each.
@@ -69,6 +69,7 @@ class Function:
         self.cleared = []
         self.third_argument = None
         self.not_understood = []
+        self.in_parts = False
 
     def read(self, line):
         instruction = line.split("\t")[1] if line.count("\t") else ""
@@ -85,11 +86,13 @@ class Function:
         elif instruction.startswith("push "):
             self.bytes += 8
         elif grown := re.match(r"sub +\$0x([0-9a-f]+),%rsp$", instruction):
-            self.bytes += int(grown[1], 16)
+            self.bytes += 0 if self.in_parts else int(grown[1], 16)
+            self.in_parts = False
         elif grown := re.match(r"add +\$0x(f{8}[0-9a-f]{8}),%rsp$", instruction):
             self.bytes += 2**64 - int(grown[1], 16)
         elif grown := self.pages(instruction):
-            self.bytes += grown - PAGE
+            self.bytes += grown
+            self.in_parts = True
         elif re.match(r"call +\*", instruction):
             self.not_understood.append(instruction)
         elif re.search(r"(,|^pop +)%rsp$", instruction):
@@ -98,7 +101,7 @@ class Function:
                 self.not_understood.append(instruction)
 
     def pages(self, instruction):
-        """A large frame is taken page by page, in a loop until the stack pointer has come down to r11: one page is counted there."""
+        """A large frame is taken in parts, in a loop until the stack pointer has come down to r11: the loop's own step is not counted."""
         grown = re.match(r"(?:sub +\$|lea +-)0x([0-9a-f]+)(?:\(%rsp\))?,%r11$", instruction)
         return int(grown[1], 16) if grown and int(grown[1], 16) > PAGE else 0
 

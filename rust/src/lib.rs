@@ -110,7 +110,7 @@
 //! A program names the crate by its path, in its Cargo.toml: `vokhsaot = { path = "CLONE/rust" }`, where CLONE is a clone of the
 //! repository. The build looks for `libvokhsaot.a` (as installed) or `libcapi.a` (as the prover writes it), in the folder that the
 //! environment's `VOKHSAOT_LIB_DIR` names; a relative path is meant from the shell's folder, the environment's `PWD`. Without
-//! `VOKHSAOT_LIB_DIR` it takes the repository's own, in target/dist/lib or target/staticlib, whichever was written last: `./build.sh`
+//! `VOKHSAOT_LIB_DIR` it takes the repository's own, in target/dist/lib or crates/capi/out, whichever was written last: `./build.sh`
 //! in the repository makes it. The library is linked statically, so a program that uses it needs no file of it at run time.
 
 #![deny(missing_docs)]

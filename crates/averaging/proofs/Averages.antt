@@ -4,7 +4,7 @@
 use mathlib.Core.Path.{◌≡◌, sym, ap, ap₂, subst, ◌∙◌}
 use mathlib.Core.List.{List, [], ◌∷◌}
 use Prim.Native.Nat.{ℕ, ◌+◌, ◌*◌, ◌≤◌}
-use native.Mathlib.Nat.{mul-add, mul_left_comm, mul_comm, mul-one, add-le-add, mul-le-mul_left, le_refl}
+use native.Mathlib.Nat.{mul-add, mul_left_comm, mul_comm, add-le-add, mul-le-mul_left, le_refl}
 use native.Mathlib.Omega.{arith}
 use Rattle.kernel.specs.Offsets.{Offset, offsets, sum_over, total, weighted}
 use Rattle.averaging.specs.Distances.{Differ}
@@ -43,9 +43,14 @@ average_sum p q ws = sum_over_lem p q offsets ws
 pub average_multiple : (c : ℕ) (p : Offset → ℕ) (ws : List ℕ) → weighted (λ d. c * p d) ws ≡ c * weighted p ws
 average_multiple c p ws = multiple_over c p offsets ws
 
+constant_over : (c : ℕ) (ds : List Offset) (ws : List ℕ) → sums (λ d. c) ds ws ≡ sum_over ◌+◌ 0 (λ d w. w) ds ws * c
+constant_over c [] ws = omega arith
+constant_over c (d ∷ ds) [] = omega arith
+constant_over c (d ∷ ds) (w ∷ ws) = omega (arith, constant_over c ds ws)
+
 -- the average of one value is the total weight times that value
 pub average_constant : (c : ℕ) (ws : List ℕ) → weighted (λ d. c) ws ≡ total ws * c
-average_constant c ws = simp mul-one at (average_multiple c (λ d. 1) ws) ∙ mul_comm c (total ws)
+average_constant c ws = constant_over c offsets ws
 
 -- ---- monotone
 

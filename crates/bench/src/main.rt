@@ -1,14 +1,16 @@
 // The bench program (REFERENCE): reads one job text from standard input and writes its answer to standard output, and nothing
 // else. The work is done in job_text; here are the two buffers and the calls that read and write. A text that cannot be read to
-// its end is no job. A program has no exit status in Rattle, so a write that fails goes unnoticed.
+// its end is no job. A write that fails goes unnoticed: the program's status is 0 either way.
+#![tactic(auto)]
+
 ghost use Rattle.std.specs.Prelude.{◌≡◌, ◌+◌, ◌≤◌, length, take};
-ghost use Rattle.io.specs.Counts.{IsPrefixLen};
 ghost use Rattle.job_parser.specs.declared.Format.TheVariants.{N};
 ghost use Rattle.job_parser.specs.Formats.{longest_of};
 ghost use Rattle.job_text.specs.Answer.{answer_text, most_bytes};
+ghost use Rattle.bench.specs.Counts.{IsPrefixLen};
 
 use job_text::Printed;
-use libc::{STDIN_FILENO, STDOUT_FILENO};
+use std::io::Read;
 
 // One byte more than a job text may have, so that a longer text is no job.
 const TEXT_BYTES: usize = job_parser::LONGEST_TEXT + 1;
@@ -27,21 +29,17 @@ fn answer_buffer() -> [u8; job_text::MOST_BYTES]
 
 // Puts the text on standard input at the start of the buffer and answers its length. Where a read fails it answers 0, for what
 // came before may not be the whole text, and an empty text is no job. No signal interrupts a read: the program handles none.
-fn read_text(text: &mut [u8]) -> usize
+fn read_text(input: &mut impl Read, text: &mut [u8]) -> usize
     requires { longest_of N + 1 ≡ length text.old }
     ensures { IsPrefixLen result text.new }
 {
     let mut done = 0;
     while done < text.len() {
-        let got = libc::read(STDIN_FILENO, &mut text[done..]);
-        let more = io::count(got, &text[done..]);
-        if got < 0 {
-            return 0;
+        match input.read(&mut text[done..]) {
+            Ok(0) => return done,
+            Ok(more) => done += more,
+            Err(_) => return 0,
         }
-        if more == 0 {
-            return done;
-        }
-        done += more;
     }
     done
 }
@@ -58,10 +56,11 @@ fn answer_into(text: &[u8], out: &mut [u8]) -> usize
     }
 }
 
-fn main() {
+fn main(rt: HostRuntime) {
     let mut text = text_buffer();
     let mut out = answer_buffer();
-    let read = read_text(&mut text);
+    let mut input = rt.stdin();
+    let read = read_text(&mut input, &mut text);
     let size = answer_into(&text[..read], &mut out);
-    io::write_all(STDOUT_FILENO, &out[..size]);
+    let _ = rt.write_all(&out[..size]);
 }

@@ -1,5 +1,7 @@
 // The buffer pool in code (REFERENCE: the store): copies into it and out of it, a step from one of its places to
 // another, and of a slot's picture. An inner crate: its functions ask of their callers that the places lie inside.
+#![tactic(auto)]
+
 ghost use Rattle.std.specs.Prelude.{◌≡◌, ◌+◌, ◌*◌, ◌<◌, ◌≤◌, length};
 ghost use Rattle.averaging.specs.Steps.{step_of};
 ghost use Rattle.row_core.specs.Prepared.{StepKernel, kernel_of_coefficients, Prepared};

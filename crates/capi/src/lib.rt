@@ -1,4 +1,6 @@
 // The calls of the smoother for C and Rust, on numbers and slices alone: each is one call of a crate below, with its contract.
+#![tactic(auto)]
+
 mod covariance_calls;
 mod kernel_calls;
 mod picture_reads;

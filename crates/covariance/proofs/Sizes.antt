@@ -6,7 +6,7 @@ use mathlib.Core.Bool.{beq}
 use native.Mathlib.Nat.{div-le_of_le-mul, mod-one}
 use lib.Ieee.{Float, nan, inf, fin, binary64, up, down, size, unlike, round, add, sum, sub, mul, neg, le}
 use lib.Ieee.Fits.{down_pos, and_l, round_is}
-use lib.Ieee.Digits.{size_le}
+use lib.Ieee.Digits.{size-le}
 use lib.Ieee.Exact.{HasValue, units_val}
 use lib.Ieee.Nearest.{closest, closest_mono}
 use Rattle.limits.proofs.Laws.{both_true}
@@ -41,7 +41,7 @@ module _ (s : Bool) (n d b : ℕ) (p : 0 < d) (small : b < 2 ^ 53) (h : n ≤ b 
   dropped : size (n * 2 ^ 1074 / d) - 53 ≤ 1074
   dropped =
       let z = size (n * 2 ^ 1074 / d) in
-      let fits : z ≤ 1127 = size_le (n * 2 ^ 1074 / d) 1127 (lt_of_le_of_lt (div-le_of_le-mul d (le_trans in_units (le_of_eq (mul_right_comm b d (2 ^ 1074) ∙ mul_comm (b * 2 ^ 1074) d)))) room) in
+      let fits : z ≤ 1127 = size-le (n * 2 ^ 1074 / d) 1127 (lt_of_le_of_lt (div-le_of_le-mul d (le_trans in_units (le_of_eq (mul_right_comm b d (2 ^ 1074) ∙ mul_comm (b * 2 ^ 1074) d)))) room) in
       omega arith
 
   -- the result is q × 2 ^ k units of the format's smallest value, and b is c × 2 ^ k of them, so q is at most c

@@ -1,6 +1,8 @@
 // Shapes and their covariance: a Round or an Oval, in floats, to whole numbers of 1/4096 square pixel, or refusal 3 or 4; and
 // the kernel of a shape and a step count. A float is multiplied by a power of two, which is exact, before it is cut to a
 // whole number: so no rounding stands between the float value and the nearest whole number.
+#![tactic(auto)]
+
 ghost use Rattle.std.specs.Prelude.{◌≡◌, ◌+◌, ◌≤◌, true, pos, neg_ℤ};
 ghost use Rattle.covariance.specs.Floats.{in_range};
 ghost use Rattle.covariance.specs.Units.{nearest_units};
@@ -13,7 +15,7 @@ use kernel::{Choice, KernelAnswer};
 use limits::ErrorCode;
 
 // REFERENCE's direction: a cosine c and a sine s.
-#[derive(Drop)]
+#[derive(Clone, Copy)]
 pub struct Direction {
     pub cosine: f64,
     pub sine: f64,
@@ -21,7 +23,7 @@ pub struct Direction {
 
 // REFERENCE's shape: Matrix (xx, xy, yy in 1/4096 square pixel), Round (variance in square pixels) or Oval (long and short
 // variance, direction).
-#[derive(Drop)]
+#[derive(Clone, Copy)]
 pub enum Shape {
     Matrix(i32, i32, i32),
     Round(f64),
@@ -29,7 +31,7 @@ pub enum Shape {
 }
 
 // The entries xx, xy, yy of a covariance matrix in 1/4096 square pixel, or a refusal.
-#[derive(Drop)]
+#[derive(Clone, Copy)]
 pub enum Covariance {
     Entries(i32, i32, i32),
     Refused(ErrorCode),

@@ -3,14 +3,17 @@
 // of the refusal), the covariance xx xy yy (zeros where the answer is 3 or 4), nine weights and their sum (zeros where it is a
 // refusal). Numbers are decimal and parted by one blank; a float is the number that its 64 bits make. Prints how many shapes
 // there were, for how many of them the crate answers otherwise, and how many have each answer.
-ghost use Rattle.std.specs.Prelude.{◌<◌, ◌≤◌};
+#![tactic(auto)]
+
+ghost use Rattle.std.specs.Prelude.{◌<◌, ◌≤◌, length};
 
 use covariance::{Covariance, Direction, Shape};
 use kernel::Kernel;
-use libc::{STDIN_FILENO, STDOUT_FILENO};
+use std::io;
+use std::io::Read;
 
 // The line that is being read, and what the lines before it came to.
-#[derive(Drop)]
+#[derive(Clone, Copy)]
 struct Progress {
     kind: u8,
     fields: [u64; 20],
@@ -214,10 +217,25 @@ fn with_bytes(p: Progress, bytes: &[u8]) -> Progress {
     next
 }
 
+// Reads until the space is full, the input ends or a read fails, and answers how many bytes it put at the start of the space.
+fn read_full(input: &mut impl Read, space: &mut [u8]) -> usize
+    ensures { result ≤ length space.new }
+{
+    let mut done = 0;
+    while done < space.len() {
+        match input.read(&mut space[done..]) {
+            Ok(0) => return done,
+            Ok(more) => done += more,
+            Err(_) => return done,
+        }
+    }
+    done
+}
+
 // One read of the input.
-fn with_input(p: Progress) -> Progress {
-    let mut space = io::large_buffer();
-    let n = io::read_full(STDIN_FILENO, &mut space);
+fn with_input(p: Progress, input: &mut impl Read) -> Progress {
+    let mut space = [0u8; 65536];
+    let n = read_full(input, &mut space);
     let mut next = with_bytes(p, &space[..n]);
     if n == 0 {
         next.ended = true;
@@ -225,33 +243,31 @@ fn with_input(p: Progress) -> Progress {
     next
 }
 
-fn print_row(name: &[u8], n: u64) {
-    io::write_all(STDOUT_FILENO, name);
-    io::write_all(STDOUT_FILENO, b"\t");
-    io::print_decimal(STDOUT_FILENO, n);
-    io::write_all(STDOUT_FILENO, b"\n");
+fn print_row(rt: &impl Print, name: &str, n: u64) -> io::Result<()> {
+    println!(rt; "{name}\t{n}")
 }
 
-fn print_answer(answer: u64, n: u64) {
+fn print_answer(rt: &impl Print, answer: u64, n: u64) -> io::Result<()> {
     if n != 0 {
-        io::write_all(STDOUT_FILENO, b"answer ");
-        io::print_decimal(STDOUT_FILENO, answer);
-        print_row(b"", n);
+        print!(rt; "answer {answer}")?;
+        print_row(rt, "", n)?;
     }
+    Ok(())
 }
 
-fn print_answers(answers: [u64; 14]) {
+fn print_answers(rt: &impl Print, answers: [u64; 14]) -> io::Result<()> {
     for i in 0..14 {
-        print_answer(i as u64, answers[i]);
+        print_answer(rt, i as u64, answers[i])?;
     }
+    Ok(())
 }
 
 // The whole input, of at most 1024 reads.
-fn read_all() -> Progress {
+fn read_all(input: &mut impl Read) -> Progress {
     let mut progress = start();
     let mut turns: u64 = 1024;
     while 0 < turns {
-        progress = with_input(progress);
+        progress = with_input(progress, input);
         if progress.ended {
             return progress;
         }
@@ -260,13 +276,14 @@ fn read_all() -> Progress {
     progress
 }
 
-fn report(progress: Progress) {
-    print_row(b"shapes", progress.lines);
-    print_row(b"wrong", progress.wrong);
+fn report(rt: &impl Print, progress: Progress) -> io::Result<()> {
+    print_row(rt, "shapes", progress.lines)?;
+    print_row(rt, "wrong", progress.wrong)?;
     let answers = progress.answers;
-    print_answers(answers);
+    print_answers(rt, answers)
 }
 
-fn main() {
-    report(read_all());
+fn main(rt: HostRuntime) -> io::Result<()> {
+    let mut input = rt.stdin();
+    report(&rt, read_all(&mut input))
 }

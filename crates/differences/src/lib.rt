@@ -1,6 +1,8 @@
 // Differences of a lent picture, written to a lent result of as many entries: the five undivided ones in whole numbers, and the
 // directional one in floats. One walk along the places, in row order, serves them all: it keeps the columns and rows around the
 // place, so that no place is divided into column and row, and the ends of a picture cost a comparison each.
+#![tactic(auto)]
+
 ghost use Rattle.std.specs.Prelude.{◌≡◌, ◌+◌, ◌*◌, ◌^◌, ◌≤◌, ◌<◌, length, get_or, pos, ◌-ℤ◌};
 ghost use Rattle.limits.specs.Limits.{largest_pixel, longest_side};
 ghost use Rattle.limits.specs.Errors.{first_refusal, held_after};
@@ -14,7 +16,7 @@ use limits::{ErrorCode, Outcome};
 
 // REFERENCE's undivided differences: the first ones are twice the derivative, the second ones the second derivative, and the
 // mixed one is four times the mixed derivative.
-#[derive(Drop)]
+#[derive(Clone, Copy)]
 pub enum Difference {
     FirstX,
     FirstY,
@@ -25,7 +27,7 @@ pub enum Difference {
 
 // A place of a picture: its index, its column and the columns next to it, and the indices at which its row and the rows next to
 // it start. Where the picture ends, the nearest column or row stands for the one outside.
-#[derive(Drop)]
+#[derive(Clone, Copy)]
 struct Place {
     at: usize,
     left: usize,

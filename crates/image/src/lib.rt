@@ -1,5 +1,7 @@
 // Pixels of an image (REFERENCE: a picture) that is lent as a slice with a width and a height. The covered core of reading
 // stands here, with plain parameters; only `view` calls it, and the reading that users reach is `view`'s.
+#![tactic(auto)]
+
 ghost use Rattle.std.specs.Prelude.{◌≡◌, ◌≤◌, ◌<◌};
 ghost use Rattle.image.specs.Image.{nearest_place};
 ghost use Rattle.image.specs.Reading.{reading_of};
@@ -7,7 +9,7 @@ ghost use Rattle.image.specs.Reading.{reading_of};
 use limits::ErrorCode;
 
 // What reading a pixel answers.
-#[derive(Drop)]
+#[derive(Clone, Copy)]
 pub enum Reading {
     Pixel(u16),
     Refused(ErrorCode),

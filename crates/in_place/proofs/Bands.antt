@@ -1,6 +1,6 @@
 -- Bands: what a stretch and the ends of rows leave in a line, that a band of the rows as they stand is that of the step, and that a band
 -- which waits and one that is put in its place leave the image made so far. Assumes nothing.
-use mathlib.Core.Path.{◌≡◌, refl, sym, ap, ◌∙◌}
+use mathlib.Core.Path.{◌≡◌, refl, sym, ap, ap₂, ◌∙◌}
 use mathlib.Core.Bool.{Bool, true, false, not}
 use mathlib.Core.Logic.{◌⊎◌, inl, inr, ◌≢◌}
 use mathlib.Core.List.{List}
@@ -22,10 +22,14 @@ use Rattle.row_core.proofs.Rows.{pixel_from, length_step, row_inside}
 use Rattle.in_place.specs.Bands.{band_pixel, stretch_from, Waiting, Room, BandInside, Place, Next, OnePicture}
 use Rattle.in_place.specs.declared.Band.{Band}
 
+-- a function of three equal values
+ap₃ : {A B C D : Type 0} (f : A → B → C → D) {a d : A} {b e : B} {c g : C} → a ≡ d → b ≡ e → c ≡ g → f a b c ≡ f d e g
+ap₃ f {a} {d} {b} {e} {c} {g} p q r = ap (λ t. f t b c) p ∙ ap₂ (f d) q r
+
 -- averages of the same columns
 pub same_columns : (k : Kernel) (pixels : List ℕ) (v : Starts) {a b c d e f : ℕ} → a ≡ d → b ≡ e → c ≡ f
     → average_of k (column_in pixels v a) (column_in pixels v b) (column_in pixels v c) ≡ average_of k (column_in pixels v d) (column_in pixels v e) (column_in pixels v f)
-same_columns k pixels v p q r = rw (p, q, r)
+same_columns k pixels v p q r = ap₃ (average_of k) (ap (column_in pixels v) p) (ap (column_in pixels v) q) (ap (column_in pixels v) r)
 
 -- ---- a and b are written at the first and the last of w places from i on
 module _ (l : List ℕ) (i w a b : ℕ) (some : 1 ≤ w) (inside : i + w ≤ length l) (same : 1 ≡ w → b ≡ a) where
@@ -89,7 +93,7 @@ stretch_at : (k : Kernel) (n : ℕ) (pixels : List ℕ) (v : Starts) (t : ℕ) �
 unfolding stretch_of
 stretch_at k n pixels v t l =
     entry n _ 0 t l
-    ∙ rw (column_of_parts (n + 2) pixels v t (omega (arith, l)), column_of_parts (n + 2) pixels v (t + 1) (omega (arith, l)), column_of_parts (n + 2) pixels v (t + 2) (omega (arith, l)))
+    ∙ ap₃ (average_of k) (column_of_parts (n + 2) pixels v t (omega (arith, l))) (column_of_parts (n + 2) pixels v (t + 1) (omega (arith, l))) (column_of_parts (n + 2) pixels v (t + 2) (omega (arith, l)))
 
 -- the pixels of a band of s pixels, but for the ends of its rows, once the stretch between its first and its last pixel is in the line
 pub inside_made : (k : Kernel) (w s : ℕ) (pixels l : List ℕ) (v : Starts) {o : List ℕ} → 2 < s → s ≤ length l → o ≡ paste l 1 (stretch_from k (s - 2) pixels v) (s - 2)
@@ -149,8 +153,8 @@ module _ (k : Kernel) (w h : ℕ) (old picture line : List ℕ) (v : Starts) (y 
           let place : (y + j) * w + x ≡ y * w + i = omega arith in
           get_or-take (n * w) line i 0 (omega (arith, row, lx))
           ∙ pixels j x row lx
-          ∙ rw (column (j * w + min (x - 1) (w - 1)), column (j * w + x), column (j * w + min (x + 1) (w - 1)))
-          (pixel_from k w h old v (j * w) x (y + j) (min (x - 1) (w - 1)) (min (x + 1) (w - 1)) lx (omega (arith, lj, band.inside)) (band.above j lj) (band.at j lj) (band.below j lj) refl refl)
+          ∙ ap₃ (average_of k) (column (j * w + min (x - 1) (w - 1))) (column (j * w + x)) (column (j * w + min (x + 1) (w - 1)))
+          ∙ (pixel_from k w h old v (j * w) x (y + j) (min (x - 1) (w - 1)) (min (x + 1) (w - 1)) lx (omega (arith, lj, band.inside)) (band.above j lj) (band.at j lj) (band.below j lj) refl refl)
           ∙ ap (λ (i : ℕ). get_or (step_of k w h old) i 0) place
           ∙ sym (part_at (y * w) (n * w) (step_of k w h old) i (omega (arith, row, lx)))
 

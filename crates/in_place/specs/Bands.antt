@@ -1,6 +1,6 @@
 -- Bands of a step within one image: whole rows that are made at one time, from the rows as they stand, and wait in a line. Definitions
 -- only.
-use Rattle.std.specs.Prelude.{◌≡◌, List, ℕ, ◌+◌, ◌-◌, ◌*◌, ◌≤◌, ◌<◌, min, length, take, drop}
+use Rattle.std.specs.Prelude.{◌≡◌, List, ℕ, ◌+◌, ◌-◌, ◌*◌, ◌≤◌, ◌<◌, min, take, drop}
 use Rattle.limits.specs.Limits.{longest_side}
 use Rattle.kernel.specs.declared.Kernel.{Kernel}
 use Rattle.averaging.specs.Steps.{step_of}

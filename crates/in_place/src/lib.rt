@@ -8,6 +8,8 @@
 //
 // A band is made in one stretch, from the pixels as they stand: the pixels beside the first and the last one of a row are then those of other
 // rows, so these two are made again by themselves. One long loop is faster than a short one for each row.
+#![tactic(auto)]
+
 ghost use Rattle.std.specs.Prelude.{◌≡◌, List, ℕ, ◌+◌, ◌-◌, ◌*◌, ◌<◌, ◌≤◌, min, length, get_or, take, drop};
 ghost use Rattle.std.proofs.Math.Seq.{paste};
 ghost use Rattle.limits.specs.Limits.{longest_side};
@@ -24,7 +26,7 @@ use row_core::{Coefficients, Products, Starts};
 const LINE: usize = limits::LONGEST_SIDE as usize;
 
 // The places of a band's rows in the image, of those above and of those below them, and how many pixels it has.
-#[derive(Drop)]
+#[derive(Clone, Copy)]
 struct Band {
     above: usize,
     at: usize,

@@ -1,6 +1,6 @@
 -- A job with the smallest choice has the same bytes in both formats, but for the letter and for what names the choice. Assumes nothing.
 use mathlib.Core.Path.{◌≡◌, refl, sym, ap, ◌∙◌}
-use mathlib.Core.List.{List, [], ◌∷◌, ◌++◌, append_assoc, append-nil}
+use mathlib.Core.List.{List, [], ◌∷◌, ◌++◌, append_assoc}
 use Prim.Native.Nat.{ℕ, suc, ◌+◌, ◌-◌, ◌≤◌}
 use native.Mathlib.Omega.{arith}
 use lib.ListN.{length, take, drop, length-append}
@@ -8,8 +8,8 @@ use lib.Seq.{take_at, drop_at}
 use Rattle.kernel.specs.declared.Choice.TheVariants.{Smallest}
 use Rattle.job_printer.specs.Numerals.{numeral, integer}
 use Rattle.job_printer.specs.Fields.{tab, newline, line, row_lines}
-use Rattle.job_parser.specs.Formats.{letter_of, longest_of, choice_letter, CanHave}
-use Rattle.job_parser.specs.Job.{Job, header_text, text_of, HeaderInTypes, InTypes, IsText}
+use Rattle.job_parser.specs.Formats.{letter_of, longest_of, CanHave}
+use Rattle.job_parser.specs.Job.{Job, header_text, text_of}
 use Rattle.job_parser.specs.declared.Format.{Format}
 use Rattle.job_parser.specs.declared.Format.TheVariants.{J, N}
 use Rattle.job_parser.specs.declared.Header.{Header}

@@ -1,26 +1,25 @@
 -- The theorems on the converter, of both ways at once: a converted text is the text of the same job in the other format, every text comes
 -- back as it was, and which texts are refused with what. Assumes nothing.
-use mathlib.Core.Path.{◌≡◌, refl, sym, ap, ◌∙◌}
+use mathlib.Core.Path.{◌≡◌, refl, sym, ◌∙◌}
 use mathlib.Core.Bool.{Bool, true, false}
 use mathlib.Core.List.{List}
 use mathlib.Core.Logic.{◌↔◌}
 use mathlib.Core.Option.{Option, some, none}
 use Prim.Native.Nat.{ℕ, ◌+◌}
 use native.Mathlib.Omega.{arith}
-use borrow.Author.Tests.{eq-eqb, ne_eqb, eqb-false}
+use borrow.Author.Tests.{eq-eqb, ne_eqb}
 use lib.Dec.{eqb}
 use lib.ListN.{length}
 use Rattle.limits.specs.Errors.{unless}
 use Rattle.limits.specs.declared.ErrorCode.TheVariants.{TextIsNoJob, WrongLength, CannotGoBack}
 use Rattle.limits.specs.declared.Outcome.TheVariants.{Accepted, Refused}
-use Rattle.kernel.specs.declared.Choice.{Choice}
 use Rattle.kernel.specs.declared.Choice.TheVariants.{Binomial, Smallest}
 use Rattle.job_parser.specs.Job.{Job, text_of, InTypes, IsText}
 use Rattle.job_parser.specs.Parsing.{parse}
 use Rattle.job_parser.specs.declared.Format.{Format}
 use Rattle.job_parser.specs.declared.Format.TheVariants.{J, N}
 use Rattle.job_parser.proofs.Parsing.{parse_text, text_parsed}
-use Rattle.job_converter.specs.Conversion.{smallest_bytes, converted, is_job, is_smallest, has_smallest, conversion, output_after}
+use Rattle.job_converter.specs.Conversion.{smallest_bytes, converted, is_smallest, conversion, output_after}
 use Rattle.job_converter.proofs.Spelling.{converted_text, text_long, same_room, can_have}
 
 module _ (from to : Format) (text : List ℕ) (job : Job) (is : IsText from text job) (smallest : job.header.choice ≡ Smallest) where

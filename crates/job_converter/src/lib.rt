@@ -1,5 +1,7 @@
 // Archived job texts: from J to N with the smallest choice, and back. A call writes the whole text in the other format to the lent output,
 // or answers refusal 1, 14 or 9 and leaves the output as it was.
+#![tactic(auto)]
+
 ghost use Rattle.std.specs.Prelude.{◌≡◌, ◌+◌, ◌≤◌, length};
 ghost use Rattle.limits.specs.Errors.{first_refusal};
 ghost use Rattle.job_printer.specs.Buffers.{Wrote};

@@ -2,7 +2,7 @@
 -- computed proof. Assumes nothing.
 use mathlib.Core.Path.{◌≡◌, refl}
 use mathlib.Core.List.{List, [], ◌∷◌, map}
-use mathlib.Core.Option.{Option, some, none}
+use mathlib.Core.Option.{some, none}
 use Prim.Native.Nat.{ℕ, ◌<◌}
 use Prim.Native.String.{String}
 use borrow.Author.Tests.{lt-leb}
@@ -13,12 +13,11 @@ use Rattle.kernel.specs.declared.Choice.TheVariants.{Binomial, Smallest}
 use Rattle.job_printer.specs.Numerals.{numeral_within, numeral}
 use Rattle.job_printer.specs.Fields.{newline, line, row_lines}
 use Rattle.job_printer.specs.Text.{bytes}
-use Rattle.job_parser.specs.declared.Sizes.{Sizes}
 use Rattle.job_parser.specs.declared.Format.{Format}
 use Rattle.job_parser.specs.declared.Format.TheVariants.{J, N}
 use Rattle.job_parser.specs.Formats.{letter_of, longest_of, choice_letter}
 use Rattle.job_parser.specs.Job.{Job, text_of, most_unsigned, most_positive, most_negative}
-use Rattle.job_parser.specs.Reading.{Reading, found, nothing, read_byte, read_digits, read_number, read_negative, read_signed, read_letter, read_choice, read_row, read_rows}
+use Rattle.job_parser.specs.Reading.{found, nothing, read_byte, read_digits, read_number, read_negative, read_signed, read_letter, read_choice, read_row, read_rows}
 use Rattle.job_parser.specs.Parsing.{read_entries, read_sizes, read_header, read_job, parse}
 use Rattle.job_parser.specs.Pictures.{most_pixels}
 

@@ -9,7 +9,6 @@ use native.Mathlib.Omega.{arith}
 use borrow.Author.Tests.{ltb-true, ltb-false, eq-eqb, ne_eqb, eqb-true, eqb-false, le-leb, leb-true}
 use lib.Dec.{leb, ltb, eqb}
 use lib.IntN.{ℤ, pos, negsuc}
-use Rattle.kernel.specs.declared.Choice.{Choice}
 use Rattle.kernel.specs.declared.Choice.TheVariants.{Binomial, Smallest}
 use Rattle.limits.proofs.Laws.{both_true}
 use Rattle.job_printer.specs.Numerals.{digit, numeral, integer, minus_sign}

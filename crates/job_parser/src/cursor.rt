@@ -10,24 +10,24 @@ const MOST_POSITIVE: u32 = 2147483647;
 
 const MOST_NEGATIVE: u32 = 2147483648;
 
-#[derive(Drop)]
+#[derive(Clone, Copy)]
 pub struct Cursor {
     pub at: usize,
 }
 
-#[derive(Drop)]
+#[derive(Clone, Copy)]
 pub enum Place {
     After(Cursor),
     Nowhere,
 }
 
-#[derive(Drop)]
+#[derive(Clone, Copy)]
 pub enum Field {
     Value(u32, Cursor),
     NoField,
 }
 
-#[derive(Drop)]
+#[derive(Clone, Copy)]
 pub enum SignedField {
     Value(i32, Cursor),
     NoField,

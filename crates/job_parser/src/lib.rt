@@ -1,5 +1,7 @@
 // Reading a job text: line one, and the lines of pixels, which are put into a lent picture. An inner crate: `read_job` asks for
 // a picture that has room for the pixels of every text, only crates of this repository call it, and nothing exports it.
+#![tactic(auto)]
+
 ghost use Rattle.std.specs.Prelude.{◌≡◌, ◌≤◌, length, drop};
 ghost use Rattle.std.proofs.Math.Option.{some};
 ghost use Rattle.job_printer.specs.Buffers.{written};
@@ -28,14 +30,14 @@ pub const MOST_PIXELS: usize = 8191;
 const LARGEST_PIXEL: u32 = 65535;
 
 // The formats of a job text: J, archived, and N, which names the choice.
-#[derive(Drop)]
+#[derive(Clone, Copy)]
 pub enum Format {
     J,
     N,
 }
 
 // Line one of a job text.
-#[derive(Drop)]
+#[derive(Clone, Copy)]
 pub struct Header {
     pub xx: i32,
     pub xy: i32,
@@ -46,48 +48,48 @@ pub struct Header {
     pub choice: Choice,
 }
 
-#[derive(Drop)]
+#[derive(Clone, Copy)]
 enum HeaderField {
     Value(Header, Cursor),
     NoField,
 }
 
 // The entries of a covariance.
-#[derive(Drop)]
+#[derive(Clone, Copy)]
 struct Entries {
     pub xx: i32,
     pub xy: i32,
     pub yy: i32,
 }
 
-#[derive(Drop)]
+#[derive(Clone, Copy)]
 enum EntriesField {
     Value(Entries, Cursor),
     NoField,
 }
 
 // A step count and the sides of a picture.
-#[derive(Drop)]
+#[derive(Clone, Copy)]
 struct Sizes {
     pub steps: u32,
     pub width: u32,
     pub height: u32,
 }
 
-#[derive(Drop)]
+#[derive(Clone, Copy)]
 enum SizesField {
     Value(Sizes, Cursor),
     NoField,
 }
 
-#[derive(Drop)]
+#[derive(Clone, Copy)]
 enum ChoiceField {
     Value(Choice, Cursor),
     NoField,
 }
 
 // What a text is: a job, whose pixels stand in a picture beside it, or none.
-#[derive(Drop)]
+#[derive(Clone, Copy)]
 pub enum JobText {
     Job(Header),
     NoJob,

@@ -1,6 +1,8 @@
 // Writing a refusal, a kernel and a picture as lines of text into a lent buffer: each function is given the place to write at
 // and answers the place after what it wrote. What stands elsewhere in the buffer is kept. An inner crate: its functions take a
 // kernel or have a `requires`, only crates of this repository call them, and nothing exports them.
+#![tactic(auto)]
+
 ghost use Rattle.std.specs.Prelude.{◌≡◌, [], ◌∷◌, ◌++◌, map, ◌+◌, ◌*◌, ◌<◌, ◌≤◌, length, take, drop};
 ghost use Rattle.job_printer.specs.Numerals.{digit, numeral};
 ghost use Rattle.job_printer.specs.Fields.{tab, separator, line, row_lines};

@@ -18,7 +18,7 @@ use Rattle.job_parser.specs.Reading.{read_byte, read_digits, read_number, read_n
 use Rattle.job_parser.specs.Parsing.{read_entries, read_sizes, read_header, read_job, parse}
 use Rattle.job_text.specs.declared.Printed.{Printed}
 use Rattle.job_text.specs.declared.Printed.TheVariants as printed
-use Rattle.job_text.specs.Answer.{printed_number, printed_values, job_answer, answer_text, most_bytes, Answered, answered}
+use Rattle.job_text.specs.Answer.{printed_number, printed_values, job_answer, answer_text, most_bytes, answered}
 
 -- ---- from row to row the first fault of the row before is mended; the last has no kernel, as case d of REFERENCE
 abbrev pub refusals : List (String × String)

@@ -1,5 +1,7 @@
 // The bench program's work: a job text in, the kernel and the smoothed picture or a refusal out, as text. job_parser reads the
 // job, job_printer writes the answer, and the job runs between two pictures of this library's own.
+#![tactic(auto)]
+
 ghost use Rattle.std.specs.Prelude.{◌≡◌, ◌*◌, ◌≤◌, length};
 ghost use Rattle.limits.specs.Errors.{first_refusal};
 ghost use Rattle.job_printer.specs.Buffers.{Wrote};
@@ -14,7 +16,7 @@ use limits::{ErrorCode, Outcome};
 pub const MOST_BYTES: usize = 49240;
 
 // What was printed: so many bytes at the start of the lent buffer, or nothing.
-#[derive(Drop)]
+#[derive(Clone, Copy)]
 pub enum Printed {
     Bytes(usize),
     Refused(ErrorCode),

@@ -7,7 +7,7 @@ use mathlib.Core.Bool.{Bool, true, false, cond}
 use mathlib.Core.Logic.{◌↔◌}
 use mathlib.Core.List.{List, [], ◌∷◌}
 use Prim.Native.Nat.{ℕ, ◌+◌, ◌-◌, ◌*◌, ◌/◌, ◌≤◌, ◌<◌, min, max}
-use native.Mathlib.Nat.{add_comm, mul_comm, mul-zero, le_of_mul-le-mul_left, le_trans, le_of_eq, le-max_right, max-le, min-le_left, min-eq_left}
+use native.Mathlib.Nat.{mul_comm, mul-zero, le_of_mul-le-mul_left, le_trans, le_of_eq, min-le_left, min-eq_left}
 use native.Mathlib.Omega.{arith}
 use borrow.Author.Tests.{ltb-true, ltb-false}
 use lib.Dec.{T, leb, ltb}
@@ -24,62 +24,22 @@ use Rattle.kernel.proofs.Signs.{plus, minus}
 use Rattle.kernel.proofs.Moments.{every}
 use Rattle.kernel.proofs.Plain.{choose, choose_smaller, bound_of, free_of, bound, free_by_lem, Between}
 use Rattle.kernel.proofs.Theorems.{is_le, le_is, xx_of, yy_of, equation, with_weights, lift_by}
-
--- ---- the bound of S-2 in sums alone
-half_to : (t n : ℕ) → (t + 1) / 2 ≤ n → t ≤ 2 * n
-half_to t n h = omega arith
-
-half_from : (t n : ℕ) → t ≤ 2 * n → (t + 1) / 2 ≤ n
-half_from t n h = omega arith
-
-three_to : (a b m n : ℕ) → a + b + max a b - m ≤ 2 * n → (2 * a + b ≤ m + 2 * n) × (a + 2 * b ≤ m + 2 * n)
-three_to a b m n h = (omega arith, omega arith)
-
-three_from : (a b m n : ℕ) → 2 * a + b ≤ m + 2 * n → a + 2 * b ≤ m + 2 * n → a + b + max a b - m ≤ 2 * n
-three_from a b m n g h = omega arith
-
--- a side of the kernel beside its centre, for a variance a and the other one b
-side_from : (a b m n : ℕ) → 2 * a + b ≤ m + 2 * n → 2 * (2 * (a - n)) ≤ 4 * (m + n - (a + b))
-side_from a b m n h = omega arith
-
-side_to : (a b m n : ℕ) → n ≤ a → a + b ≤ m + n → 2 * (2 * (a - n)) ≤ 4 * (m + n - (a + b)) → 2 * a + b ≤ m + 2 * n
-side_to a b m n g l h = omega arith
+use Rattle.kernel.proofs.Ratios.{three_to, ratio_from, ratio_needs}
 
 -- ---- the ratio of two, for any free number between the bounds
 module _ (a : ℕ) (xy : ℤ) (b n k : ℕ) (h : Between a (nat_abs xy) b n (units_of k)) where
-  swapped : 4 * (units_of k + n - (b + a)) ≡ 4 * (units_of k + n - (a + b))
-  swapped = ap (λ s. 4 * (units_of k + n - s)) (add_comm b a)
-
-  ratio_from : bound_of (nat_abs xy) a b (units_of k) ≤ n → RatioOfTwo (kernel_with (pos a) xy (pos b) (pos n) k)
-  ratio_from l =
-      let half = le_trans (le-max_right (max (nat_abs xy) (a + b - units_of k)) ((a + b + max a b - units_of k + 1) / 2)) l in
-      let three = three_to a b (units_of k) n (half_to (a + b + max a b - units_of k) n half) in
-      record {
-        beside = rw (with_weights a xy b n k h) (side_from a b (units_of k) n three.0);
-        above = rw (with_weights a xy b n k h) (subst (λ c. 2 * (2 * (b - n)) ≤ c) swapped (side_from b a (units_of k) n (rw (add_comm (2 * b) a) three.1)));
-      }
-
-  ratio_needs : RatioOfTwo (kernel_with (pos a) xy (pos b) (pos n) k) → bound_of (nat_abs xy) a b (units_of k) ≤ n
-  ratio_needs r =
-      let beside = side_to a b (units_of k) n h.across h.steps (rw (with_weights a xy b n k h) at r.beside) in
-      let above =
-      side_to b a (units_of k) n h.down (rw (add_comm b a) h.steps)
-      (subst (λ c. 2 * (2 * (b - n)) ≤ c) (sym swapped) (rw (with_weights a xy b n k h) at r.above)) in
-      let three = three_from a b (units_of k) n beside (rw (add_comm a (2 * b)) above) in
-      max-le (max-le h.leans (omega (arith, h.steps))) (half_from (a + b + max a b - units_of k) n three)
-
   -- it holds exactly from the bound of S-2 on
   pub ratio_exactly : RatioOfTwo (kernel_with (pos a) xy (pos b) (pos n) k) ↔ (binomial_bound (pos a) xy (pos b) (units_of k) ≤ℤ pos n)
   ratio_exactly = (
-    λ r. subst (λ f. f ≤ℤ pos n) (sym (bound a xy b (units_of k))) (is_le (ratio_needs r)),
-    λ l. ratio_from (le_is (subst (λ f. f ≤ℤ pos n) (bound a xy b (units_of k)) l)),
+    λ r. subst (λ f. f ≤ℤ pos n) (sym (bound a xy b (units_of k))) (is_le (ratio_needs a xy b n k h r)),
+    λ l. ratio_from a xy b n k h (le_is (subst (λ f. f ≤ℤ pos n) (bound a xy b (units_of k)) l)),
   )
 
   -- no free number with the ratio is smaller than that of S-2
   pub smallest_with_ratio : RatioOfTwo (kernel_with (pos a) xy (pos b) (pos n) k) → free_number_by Binomial (pos a) xy (pos b) (units_of k) ≤ℤ pos n
   smallest_with_ratio r =
       subst (λ f. f ≤ℤ pos n) (sym (free_by_lem Binomial a xy b (units_of k)))
-      (is_le (le_trans (min-le_left (bound_of (nat_abs xy) a b (units_of k)) (min a b)) (ratio_needs r)))
+      (is_le (le_trans (min-le_left (bound_of (nat_abs xy) a b (units_of k)) (min a b)) (ratio_needs a xy b n k h r)))
 
 -- ---- S-2's kernel
 -- wherever its free number is not held down to the smaller variance, the centre weighs at least twice as much as each side

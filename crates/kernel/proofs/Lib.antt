@@ -4,6 +4,7 @@ pub mod Moments
 pub mod Plain
 pub mod Answers
 pub mod Theorems
+pub mod Ratios
 pub mod Centre
 pub mod Examples
 pub mod Choices

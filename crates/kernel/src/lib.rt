@@ -1,6 +1,8 @@
 // The kernel of a covariance and a step count: nine weights by the molecule of Lindeberg's paper (equations 22 to 27), with the
 // free number of a choice, or refusal 5 or 11. The signs are taken off once, at the edge; the rest is in unsigned numbers, and
 // no sum can wrap.
+#![tactic(auto)]
+
 ghost use Rattle.std.specs.Prelude.{◌≡◌, ◌∷◌, [], ℕ, ◌+◌, ◌-◌, ◌*◌, ◌/◌, ◌≤◌, max, min, true, ◌&&◌, ℤ, pos, nat_abs};
 ghost use Rattle.limits.specs.Limits.{steps_in_range};
 ghost use Rattle.kernel.specs.Molecule.{units_of, kernel_with};
@@ -18,35 +20,35 @@ pub const WEIGHTS: usize = 9;
 // How the free number is chosen (REFERENCE, "The choice of f"). Binomial, the rule that holds where a caller names none, asks for
 // the paper's binomial kernel's ratio: its centre weighs twice as much as a side (equations 81 and 85). Smallest is the one from
 // before it (K9).
-#[derive(Drop)]
+#[derive(Clone, Copy)]
 pub enum Choice {
     Binomial,
     Smallest,
 }
 
 // Nine weights by row and then by column, and their sum.
-#[derive(Drop)]
+#[derive(Clone, Copy)]
 pub struct Kernel {
     pub weights: [u64; WEIGHTS],
     pub sum: u64,
 }
 
 // An enum holds no array, so the kernel stands beside the outcome; beside a refusal all of it is 0.
-#[derive(Drop)]
+#[derive(Clone, Copy)]
 pub struct KernelAnswer {
     pub outcome: Outcome,
     pub kernel: Kernel,
 }
 
 // The free number of a choice, as the service's record holds it; 0 beside a refusal.
-#[derive(Drop)]
+#[derive(Clone, Copy)]
 pub struct FreeAnswer {
     pub outcome: Outcome,
     pub free: u32,
 }
 
 // A signed number taken apart.
-#[derive(Drop)]
+#[derive(Clone, Copy)]
 struct Magnitude {
     size: u64,
     negative: bool,

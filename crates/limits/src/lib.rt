@@ -1,5 +1,7 @@
 // What every call shares: REFERENCE's limits, the error codes (its refusals), the outcome of a call, and the checks on step
 // counts, sides and lengths that several calls make.
+#![tactic(auto)]
+
 ghost use Rattle.std.specs.Prelude.{◌≡◌, ◌*◌, ◌&&◌};
 ghost use Rattle.limits.specs.Errors.{number_of, outcome_number};
 ghost use Rattle.limits.specs.Limits.{within_of, steps_in_range, side_in_range, sides_in_range, fills_picture, fits_buffer};
@@ -12,7 +14,7 @@ pub const LONGEST_SIDE: u32 = 1024;
 pub const BUFFER_PIXELS: usize = 1024;
 
 // REFERENCE's fourteen refusals, by their numbers; `number_of` gives each its number.
-#[derive(Drop)]
+#[derive(Clone, Copy)]
 pub enum ErrorCode {
     TextIsNoJob,
     RecordOutOfOrder,
@@ -31,7 +33,7 @@ pub enum ErrorCode {
 }
 
 // What a call answers where nothing else comes back: REFERENCE's "an answer or one numbered refusal".
-#[derive(Drop)]
+#[derive(Clone, Copy)]
 pub enum Outcome {
     Accepted,
     Refused(ErrorCode),

@@ -15,7 +15,7 @@ use Rattle.machine.proofs.Words.{untouched_by, same_held, same_numbers, same_hel
 use Rattle.machine.proofs.Invariant.{Invariant, Taken, sits_still}
 
 module _ (p : Place) (v : Invariant p) (c : Call) (no_answer : accepts (event_of p c).answer ≡ false)
-    (same-service : (next p c).service ≡ p.service) (same_Store : (next p c).store ≡ p.store) where
+    (same-service : (next p c).service ≡ p.service) (same_store : (next p c).store ≡ p.store) where
   same_jobs : job_count (next p c).history ≡ job_count p.history
   same_jobs = ap length (same_numbers (event_of p c) p.history no_answer)
 
@@ -25,7 +25,7 @@ module _ (p : Place) (v : Invariant p) (c : Call) (no_answer : accepts (event_of
       inr (
         w.0,
         sits_still p.rules v.workable (event_of p c) p.history p.store (next p c).store i w.0 s (untouched_by (event_of p c) no_answer w.0)
-            (le_of_eq (sym same_jobs)) (λ a k x y. rw same_Store) w.1,
+            (le_of_eq (sym same_jobs)) (λ a k x y. rw same_store) w.1,
       )
 
   pub quiet : Invariant (next p c)
@@ -33,7 +33,7 @@ module _ (p : Place) (v : Invariant p) (c : Call) (no_answer : accepts (event_of
       record {
         workable = v.workable;
         as_many = rw same-service v.as_many;
-        long = rw same_Store v.long;
+        long = rw same_store v.long;
         filled = rw same-service v.filled;
         served = rw same-service v.served;
         last = rw same-service (v.last ∙ sym same_jobs);

@@ -12,7 +12,7 @@ pub const BUFFERS_PER_SLOT: u32 = 2;
 pub const STORE_PIXELS: usize = BUFFERS as usize * limits::BUFFER_PIXELS;
 
 // One of eight slots (REFERENCE: a seat). Its number is 0 where it is empty, and then all of it is 0. `free` is the free number f.
-#[derive(Drop)]
+#[derive(Clone, Copy)]
 pub struct Slot {
     pub number: u64,
     pub xx: i32,
@@ -26,7 +26,7 @@ pub struct Slot {
 }
 
 // The service record: the slots, the last number given, the slot last filled and the slot last served.
-#[derive(Drop)]
+#[derive(Clone, Copy)]
 pub struct Service {
     pub slots: [Slot; SLOTS],
     pub last: u64,
@@ -35,7 +35,7 @@ pub struct Service {
 }
 
 // The record as it was before slots held f: what the change-over takes.
-#[derive(Drop)]
+#[derive(Clone, Copy)]
 pub struct BaseSlot {
     pub number: u64,
     pub xx: i32,
@@ -47,7 +47,7 @@ pub struct BaseSlot {
     pub height: u32,
 }
 
-#[derive(Drop)]
+#[derive(Clone, Copy)]
 pub struct BaseService {
     pub slots: [BaseSlot; SLOTS],
     pub last: u64,
@@ -56,14 +56,14 @@ pub struct BaseService {
 }
 
 // What the change-over answers. Beside a refusal stands a record that no call takes.
-#[derive(Drop)]
+#[derive(Clone, Copy)]
 pub struct ChangedOver {
     pub outcome: Outcome,
     pub service: Service,
 }
 
 // What a submit, a tick, a collect or a withdraw answers.
-#[derive(Drop)]
+#[derive(Clone, Copy)]
 pub enum Answer {
     Job(u64),
     Idle,
@@ -71,14 +71,14 @@ pub enum Answer {
 }
 
 // What the free count answers.
-#[derive(Drop)]
+#[derive(Clone, Copy)]
 pub enum FreeCount {
     Buffers(u32),
     Refused(ErrorCode),
 }
 
 // Where a search over the slots ended.
-#[derive(Drop)]
+#[derive(Clone, Copy)]
 pub enum Found {
     At(usize),
     Nothing,

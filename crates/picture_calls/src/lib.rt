@@ -1,5 +1,7 @@
 // Shapes, kernels, runs, differences and pixels for callers that have numbers and slices alone. A call returns 0 or the number
 // of its refusal, and a refusal changes nothing: lent slices and numbers then keep their contents.
+#![tactic(auto)]
+
 ghost use Rattle.std.specs.Prelude.{◌≡◌, length};
 ghost use Rattle.limits.specs.Errors.{outcome_number, value_or, held_after};
 ghost use Rattle.image.specs.Reading.{reading_of, reading_number, reading_values};

@@ -1,5 +1,7 @@
 // The service record as 75 words of 64 bits, for callers that have numbers and slices alone (specs/Words.antt), and the 67 of a record
 // from before slots held f. An inner crate: reading and writing ask that the words hold a record and that there are so many of them.
+#![tactic(auto)]
+
 ghost use Rattle.std.specs.Prelude.{◌≡◌, true, ◌+◌, ◌^◌, ◌<◌, ◌≤◌, ltb, length, get_or, replicate};
 ghost use Rattle.std.specs.Int.{w32};
 ghost use Rattle.std.proofs.Common.{to_z, of_z};

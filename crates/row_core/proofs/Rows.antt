@@ -1,7 +1,7 @@
 -- A step by rows: the pixels around a place stand in the padded rows above, at and below it, and the rows that the row core
 -- makes from these are those of the step. Assumes nothing.
 use mathlib.Core.Path.{◌≡◌, refl, sym, ap, ap₂, ◌∙◌}
-use mathlib.Core.List.{List, [], ◌∷◌, ◌++◌}
+use mathlib.Core.List.{List, [], ◌∷◌}
 use Prim.Native.Nat.{ℕ, ◌+◌, ◌-◌, ◌*◌, ◌/◌, ◌≤◌, ◌<◌, min}
 use native.Mathlib.Nat.{suc-mul, mul-le-mul_right, div-div-eq-div-mul}
 use native.Mathlib.Omega.{arith}

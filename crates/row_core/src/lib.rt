@@ -9,6 +9,8 @@
 //
 // Where there is no room for such lines, pixels are read as they stand (`smooth_stretch`): those of a stretch of an image that has
 // a pixel more on both sides in each of the three rows. Rounding is then added to the first quotient.
+#![tactic(auto)]
+
 ghost use Rattle.std.specs.Prelude.{◌≡◌, ◌+◌, ◌*◌, ◌/◌, ◌^◌, ◌≤◌, ◌<◌, length};
 ghost use Rattle.limits.specs.Limits.{largest_pixel};
 ghost use Rattle.kernel.specs.Offsets.{weighted};
@@ -28,7 +30,7 @@ const RECIPROCAL_ONE: u64 = 4294967296;
 
 // What every pixel of a step by one kernel is made with. Opposite weights are equal, so five stand for nine: each has the
 // name of its two offsets, and the last that of the centre.
-#[derive(Drop)]
+#[derive(Clone, Copy)]
 pub struct Coefficients {
     pub diagonal: u32,
     pub down: u32,
@@ -49,7 +51,7 @@ pub struct Coefficients {
 // pair that weighs so, and has 0 by itself too. Every product stands in the code of a pixel. Those that a kernel does not need
 // have a constant 0 in what the functions below make of its coefficients: the compiler makes a loop over the row for each of
 // these functions, and leaves them out of it (`tests/row_loops.py`).
-#[derive(Drop)]
+#[derive(Clone, Copy)]
 pub struct Products {
     pub diagonal: u32,
     pub down: u32,
@@ -65,7 +67,7 @@ pub struct Products {
 }
 
 // One column of three lines.
-#[derive(Drop)]
+#[derive(Clone, Copy)]
 struct Column {
     above: u32,
     at: u32,
@@ -456,7 +458,7 @@ pub fn smooth_row(
 // ---- pixels as they stand
 
 // Where three rows of pixels begin in an image: those above, at and below the pixels that are made.
-#[derive(Drop)]
+#[derive(Clone, Copy)]
 pub struct Starts {
     pub above: usize,
     pub at: usize,

@@ -1,5 +1,5 @@
 -- What the running calls and their parts hand back, in terms of the state machine. Definitions only.
-use Rattle.std.specs.Prelude.{◌≡◌, List, [], ◌∷◌, ℕ, ◌-◌, ◌<◌, length, set}
+use Rattle.std.specs.Prelude.{List, [], ◌∷◌, ℕ, ◌-◌, length, set}
 use Rattle.limits.specs.Errors.{◌otherwise◌, first_refusal}
 use Rattle.limits.specs.declared.Outcome as O
 use Rattle.limits.specs.declared.Outcome.{Outcome}
@@ -11,10 +11,10 @@ use Rattle.machine.specs.declared.Answer.TheVariants.{Job, Idle, Refused}
 use Rattle.machine.specs.declared.Found.{Found}
 use Rattle.machine.specs.declared.Found.TheVariants.{At, Nothing}
 use Rattle.machine.specs.Rules.{current_rules}
-use Rattle.machine.specs.Slots.{slot_count, slot_at}
-use Rattle.machine.specs.Store.{store_length, put, buffer_after}
+use Rattle.machine.specs.Slots.{slot_at}
+use Rattle.machine.specs.Store.{put, buffer_after}
 use Rattle.machine.specs.Calls.{Result, turned_at, served_place, hand_over_checks, unless_refused, collect_at}
-use Rattle.machine.specs.Order.{usable, FilledSlot}
+use Rattle.machine.specs.Order.{usable}
 use Rattle.service.specs.declared.Called as C
 use Rattle.service.specs.declared.Turn as T
 

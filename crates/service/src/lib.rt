@@ -1,16 +1,18 @@
 // The running service: opening, submit, tick, collect, withdraw, the free count, and the change-over of a record from before slots held f. The record goes in by value and comes back
 // by value, the store and the pictures are lent. Each call's contract is an equation with the state machine of `machine`, of
 // which demand 3 is proved. Whatever record comes in is in order or refused with 2: no field of it is trusted before.
+#![tactic(auto)]
+
 ghost use Rattle.std.specs.Prelude.{◌≡◌, ◌&&◌, true, List, ℤ, ℕ, ◌<◌, ◌≤◌, eqb, length};
 ghost use Rattle.limits.specs.Limits.{fits_buffer, buffer_pixels};
 ghost use Rattle.limits.specs.Errors.{first_refusal};
 ghost use Rattle.kernel.specs.Choice.{default_choice};
 ghost use Rattle.kernel.specs.Answer.{kernel_checks};
 ghost use Rattle.machine.specs.Rules.{base_rules, current_rules};
-ghost use Rattle.machine.specs.Slots.{slot_count, slot_at, opening as openingOf};
+ghost use Rattle.machine.specs.Slots.{slot_count, slot_at, opening as opening_of};
 ghost use Rattle.machine.specs.Store.{store_length};
 ghost use Rattle.machine.specs.Order.{in_order};
-ghost use Rattle.machine.specs.Calls.{turned_at, submit_of, tick_of, collect_of, withdraw_of, free_count_of, empty_place, place_of, emptied as emptiedOf, free_buffers, job_checks, room_checks};
+ghost use Rattle.machine.specs.Calls.{turned_at, submit_of, tick_of, collect_of, withdraw_of, free_count_of, empty_place, place_of, emptied as emptied_of, free_buffers, job_checks, room_checks};
 ghost use Rattle.machine.specs.Change.{slot_from_base, service_from_base, with_free, changed_over, change_checks, no_service, change_with, change_of};
 ghost use Rattle.service.specs.Called.{called_of, fill_at, hand_over, turn_of};
 ghost use Rattle.service.specs.Given.{slot_given, service_given};
@@ -25,14 +27,14 @@ use machine::{
 use slots::Sought;
 
 // An answer with the record beside it.
-#[derive(Drop)]
+#[derive(Clone, Copy)]
 pub struct Called {
     pub answer: Answer,
     pub service: Service,
 }
 
 pub fn opening() -> Service
-    ensures { result ≡ openingOf current_rules }
+    ensures { result ≡ opening_of current_rules }
 {
     slots::opening()
 }
@@ -84,7 +86,7 @@ fn place_of(service: Service, number: u64) -> Found
 
 fn emptied(service: Service, place: usize) -> Service
     requires { place < slot_count }
-    ensures { result ≡ emptiedOf service place }
+    ensures { result ≡ emptied_of service place }
 {
     let mut next = service;
     next.slots[place] = slots::empty_slot();
@@ -241,7 +243,7 @@ pub fn submit(
 
 // The answer of a tick with what it changed in the record: the steps left of the slot that was served. Where there was no step
 // place and left are 0.
-#[derive(Drop)]
+#[derive(Clone, Copy)]
 struct Turn {
     answer: Answer,
     place: usize,

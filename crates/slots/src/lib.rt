@@ -1,9 +1,11 @@
 // The slots of the service record in code: the opening, one search and one count for all calls, and the check that a record
 // is in order. Records go by value; no field of one that comes in is trusted. An inner crate: `find` asks where to start.
+#![tactic(auto)]
+
 ghost use Rattle.std.specs.Prelude.{◌≡◌, ◌<◌, ◌≤◌, eqb};
 ghost use Rattle.machine.specs.Rules.{current_rules};
-ghost use Rattle.machine.specs.Slots.{slot_count, empty_slot, next_place, first_from, count_of, opening as openingOf};
-ghost use Rattle.machine.specs.Order.{is_zero, all_zero, filled_fine, in_order as inOrderOf};
+ghost use Rattle.machine.specs.Slots.{slot_count, empty_slot, next_place, first_from, count_of, opening as opening_of};
+ghost use Rattle.machine.specs.Order.{is_zero, all_zero, filled_fine, in_order as in_order_of};
 ghost use Rattle.slots.specs.Sought.{test_of};
 ghost use Rattle.slots.specs.Numbers.{numbers_of, occurrences_of, slot_fine_after};
 
@@ -16,7 +18,7 @@ const PLACES: u32 = SLOTS as u32;
 const LAST_PLACE: u32 = PLACES - 1;
 
 // What a search looks for.
-#[derive(Drop)]
+#[derive(Clone, Copy)]
 pub enum Sought {
     Empty,
     Filled,
@@ -41,7 +43,7 @@ pub fn empty_slot() -> Slot
 }
 
 pub fn opening() -> Service
-    ensures { result ≡ openingOf current_rules }
+    ensures { result ≡ opening_of current_rules }
 {
     let empty = empty_slot();
     let slots = [empty; SLOTS];
@@ -186,7 +188,7 @@ pub fn slot_fine(last: u64, numbers: [u64; SLOTS], place: usize, slot: Slot) -> 
 
 // The test of refusal 2 for a record: it reads no pixel.
 pub fn in_order(service: Service) -> bool
-    ensures { result ≡ inOrderOf current_rules service }
+    ensures { result ≡ in_order_of current_rules service }
 {
     let numbers = numbers_of(service);
     let mut fine = true;

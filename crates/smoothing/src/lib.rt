@@ -1,6 +1,8 @@
 // The run: k smoothing steps between two lent pictures, there and back, and the part of the two that its reader is shown; and the
 // same steps within one lent picture. The public calls take any numbers and any lengths: what does not fit is refused, and then no
 // pixel has changed. Each stands once with a choice of the free number and once without.
+#![tactic(auto)]
+
 ghost use Rattle.std.specs.Prelude.{◌≡◌, ◌≤◌, length};
 ghost use Rattle.limits.specs.Errors.{first_refusal, held_after};
 ghost use Rattle.averaging.specs.Steps.{step_of, steps_of};

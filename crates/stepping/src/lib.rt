@@ -6,6 +6,8 @@
 //
 // Which products a kernel needs is asked where the rows are made (`step_row`, `step_all`), and each answer has a call of its
 // own, so that the compiler makes a loop for it. A small image asks once for all rows, since its rows are short.
+#![tactic(auto)]
+
 ghost use Rattle.std.specs.Prelude.{◌≡◌, List, ℕ, ◌+◌, ◌-◌, ◌*◌, ◌^◌, ◌<◌, ◌≤◌, min, length};
 ghost use Rattle.std.proofs.Math.Seq.{paste};
 ghost use Rattle.limits.specs.Limits.{longest_side};
@@ -27,7 +29,7 @@ pub const LINES: usize = 3 * (limits::LONGEST_SIDE as usize + 2);
 pub const SMALL_LINES: usize = limits::BUFFER_PIXELS + 2 * 64;
 
 // Where the lines of the rows above, at and below stand in the line buffers.
-#[derive(Drop)]
+#[derive(Clone, Copy)]
 struct Window {
     above: usize,
     at: usize,

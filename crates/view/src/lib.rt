@@ -1,12 +1,14 @@
 // A view of an image: lent pixels with their width and height kept together (REFERENCE: "in one record that refers to them").
 // Functions over the view are few and thin: `read` takes it apart and calls the covered core, `image::pixel_at`. Crates above
 // call `read_pixel`, whose parameters are plain, so that they have no view of their own.
+#![tactic(auto)]
+
 ghost use Rattle.std.specs.Prelude.{◌≡◌};
 ghost use Rattle.image.specs.Reading.{reading_of};
 
 use image::Reading;
 
-#[derive(Drop)]
+#[derive(Clone, Copy)]
 pub struct View<'a> {
     pub pixels: &'a [u16],
     pub width: u32,

@@ -31,7 +31,7 @@ use Rattle.machine.specs.Calls.{Call, submit, tick, collect, withdraw, Result, c
 use Rattle.machine.specs.Change.{changed_over, change_checks}
 use Rattle.machine.specs.History.{Event, Place, Entry, changing, opened, next, event_of, changed_place, onward, after, events_of, since, accepts, held_count}
 use Rattle.machine.specs.Demand.{answer_at, lent_to, Opening, by_base, by_choice}
-use Rattle.machine.proofs.Invariant.{Invariant, in_order}
+use Rattle.machine.proofs.Invariant.{Invariant, in_order_lem}
 use Rattle.machine.proofs.Changes.{change_is, change_keeps}
 use Rattle.machine.proofs.Lists.{answers, next_invariant, opened_invariant}
 use Rattle.machine.proofs.Theorem.{at_place, opening_workable}
@@ -242,7 +242,7 @@ record Changed (k : Kept) (lent : List ℕ) : Type 0 where
 module _ (k : Kept) (s : Sound k) (lent : List ℕ) where
   checked : change_word_checks k.words (length lent) ≡ change_expected k.rules lent
   unfolding change_word_checks
-  checked = rw (old_fine_lem k.rules s.opening k.words s.fit (in_order (place_seen k) s.invariant))
+  checked = rw (old_fine_lem k.rules s.opening k.words s.fit (in_order_lem (place_seen k) s.invariant))
 
   change_coded : change_code k.words lent ≡ outcome_number (change_expected k.rules lent)
   change_coded = ap outcome_number checked

@@ -1,6 +1,8 @@
 // The service's calls for callers that have numbers and slices alone. A call returns 0 or the number of its refusal, and a
 // refusal changes nothing. The service record passes as 75 words of 64 bits, which no call trusts: words that hold no record are
 // refused with 2, as a record out of order is.
+#![tactic(auto)]
+
 ghost use Rattle.std.specs.Prelude.{◌≡◌, length};
 ghost use Rattle.limits.specs.Errors.{value_or};
 ghost use Rattle.machine.specs.Answers.{answer_number, count_number, count_values};

@@ -1,0 +1,17 @@
+-- `record_words::find_left` meets its contract. The invariant: what the search finds from here on is what it finds in all. The measure is
+-- the number of slots left to look at. Assumes nothing.
+use mathlib.Core.Path.{◌≡◌}
+use Prim.Native.Nat.{◌<◌}
+use Rattle.machine.specs.Rules.{current_rules}
+use Rattle.machine.specs.Slots.{slot_count, has_steps_left, first_from}
+use Rattle.machine.specs.Calls.{served_place}
+use Rattle.record_words.specs.Words.{service_of}
+use Rattle.record_words.proofs.find_left.Given as goal
+
+abbrev pub invariant-loop-more : goal.invariant-loop-more
+invariant-loop-more l =
+    (l.place < slot_count) × (served_place current_rules (service_of current_rules l.words) ≡ first_from has_steps_left (service_of current_rules l.words).slots slot_count l.place l.more)
+
+abbrev pub decreases-loop-more : goal.decreases-loop-more
+decreases-loop-more l =
+    l.more

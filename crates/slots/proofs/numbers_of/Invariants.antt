@@ -1,0 +1,15 @@
+-- `slots::numbers_of` meets its contract. The invariant: the numbers of the slots passed stand at the front (`Filled`). The measure is what is
+-- left of the slots. Assumes nothing.
+use Prim.Native.Nat.{◌-◌}
+use Rattle.averaging.proofs.Images.{Filled}
+use Rattle.machine.specs.Slots.{slot_count}
+use Rattle.slots.specs.Numbers.{number_at}
+use Rattle.slots.proofs.numbers_of.Given as goal
+
+abbrev pub invariant-loop-i : goal.invariant-loop-i
+invariant-loop-i l =
+    Filled slot_count (number_at l.service.slots) l.numbers l.i
+
+abbrev pub decreases-loop-i : goal.decreases-loop-i
+decreases-loop-i l =
+    slot_count - l.i

@@ -1,0 +1,30 @@
+-- `stepping::step_through` meets its contract. The loop's invariant: the rows before row y are in place, and the window's lines
+-- above and at hold row y, if there is one, and the row before it, or row 0 where there is none. The measure is what is left of the
+-- rows. Assumes nothing.
+use mathlib.Core.Path.{◌≡◌}
+use mathlib.Core.List.{List}
+use Prim.Native.Nat.{ℕ, ◌-◌, ◌*◌, ◌≤◌, ◌<◌}
+use lib.ListN.{length, take}
+use Rattle.kernel.specs.declared.Kernel.{Kernel}
+use Rattle.averaging.specs.Steps.{step_of}
+use Rattle.row_core.specs.Prepared.{kernel_of_coefficients}
+use Rattle.row_core.specs.Rows.{part}
+use Rattle.stepping.specs.Buffers.{Loaded}
+use Rattle.stepping.specs.declared.Window.{Window}
+use Rattle.stepping.proofs.step_through.Given as goal
+
+pub record Progress (k : Kernel) (w h : ℕ) (source d₀ d b₀ b : List ℕ) (v : Window) (i y : ℕ) : Type 0 where
+  pub within : y ≤ h
+  pub row : i ≡ y * w
+  pub size : length d ≡ length d₀
+  pub room : length b ≡ length b₀
+  pub loaded : y < h → Loaded b v w (part ((y - 1) * w) w source) (part (y * w) w source)
+  pub done : take i d ≡ take i (step_of k w h source)
+
+abbrev pub invariant-loop-y : goal.invariant-loop-y
+invariant-loop-y l =
+    Progress (kernel_of_coefficients l.coefficients) l.width l.height l.source l.initial.target l.target l.initial.lines l.lines l.window l.row l.y
+
+abbrev pub decreases-loop-y : goal.decreases-loop-y
+decreases-loop-y l =
+    l.height - l.y
