@@ -33,7 +33,7 @@ KINDS = {
     "even_cross": (2, 5),
 }
 # where rows are made, and how many pixels at a time: small images, images that pass through three lines, and bands within one image
-PLACES = {"stepping::step_all": 4, "stepping::step": 4, "in_place::make_band": 8}
+PLACES = {"stepping::step_all": 4, "stepping::step": 4, "in_place::Plan::make_band": 8}
 
 
 def functions(text):
@@ -128,7 +128,7 @@ def self_test():
         assert len(faults_of(disassembly({**right, name: loops[:-1] + [(0, 0)]}))) == 2
         assert len(faults_of(disassembly({**right, name: []}))) == len(set(loops))
         assert len(faults_of(disassembly({**right, "elsewhere": loops}))) == len(loops)
-    assert faults_of(disassembly({**right, "in_place::make_band": right["stepping::step"]})) != []
+    assert faults_of(disassembly({**right, "in_place::Plan::make_band": right["stepping::step"]})) != []
     print("the loops of some lines are told as meant")
 
 

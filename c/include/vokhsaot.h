@@ -34,25 +34,27 @@
  * STACK. In bytes, the most that a call of this release takes with all that it calls, its return address included, whatever it is
  * lent. What a caller puts there for its arguments is not counted, nor what memcpy and memset take but their return address. No
  * function of the library calls itself, directly or through others (S6.1).
- *   46256  vokhsaot_answer_text
- *   16588  vokhsaot_convert_n_to_j
- *   16572  vokhsaot_convert_j_to_n
- *   13200  vokhsaot_run_matrix_by
- *   13184  vokhsaot_run_oval_by, vokhsaot_run_round_by
- *   12800  vokhsaot_tick
+ *   46224  vokhsaot_answer_text
+ *   16632  vokhsaot_convert_j_to_n, vokhsaot_convert_n_to_j
+ *   13184  vokhsaot_run_matrix_by
+ *   13168  vokhsaot_run_oval_by, vokhsaot_run_round_by
+ *   12832  vokhsaot_tick
  *    5008  vokhsaot_run_in_place_matrix_by
  *    4992  vokhsaot_run_in_place_oval_by, vokhsaot_run_in_place_round_by
- *    1816  vokhsaot_change_over
- *    1640  vokhsaot_collect
- *    1624  vokhsaot_withdraw
- *    1480  vokhsaot_submit_matrix_by
- *    1464  vokhsaot_submit_oval_by, vokhsaot_submit_round_by
- *     968  vokhsaot_free_count
- *     728  vokhsaot_opening
- *     264  vokhsaot_kernel_matrix_by, vokhsaot_kernel_oval_by, vokhsaot_kernel_round_by
- *     104  vokhsaot_covariance_oval, vokhsaot_covariance_round
- *      56  vokhsaot_mixed, vokhsaot_second_y
- *      48  vokhsaot_directional, vokhsaot_first_x, vokhsaot_first_y, vokhsaot_second_x
+ *    2640  vokhsaot_change_over
+ *     992  vokhsaot_submit_matrix_by
+ *     976  vokhsaot_submit_round_by
+ *     960  vokhsaot_submit_oval_by
+ *     688  vokhsaot_collect
+ *     672  vokhsaot_withdraw
+ *     592  vokhsaot_free_count
+ *     392  vokhsaot_opening
+ *     152  vokhsaot_kernel_matrix_by, vokhsaot_kernel_oval_by, vokhsaot_kernel_round_by
+ *     120  vokhsaot_covariance_oval, vokhsaot_covariance_round
+ *      56  vokhsaot_directional
+ *      48  vokhsaot_mixed, vokhsaot_second_y
+ *      40  vokhsaot_first_y
+ *      32  vokhsaot_first_x, vokhsaot_second_x
  *      16  vokhsaot_pixel
  *       8  vokhsaot_shown
  */

@@ -9,7 +9,6 @@ ghost use Rattle.job_parser.specs.Formats.{longest_of};
 ghost use Rattle.job_text.specs.Answer.{answer_text, most_bytes};
 ghost use Rattle.bench.specs.Counts.{IsPrefixLen};
 
-use job_text::Printed;
 use std::io::Read;
 
 // One byte more than a job text may have, so that a longer text is no job.
@@ -28,7 +27,8 @@ fn answer_buffer() -> [u8; job_text::MOST_BYTES]
 }
 
 // Puts the text on standard input at the start of the buffer and answers its length. Where a read fails it answers 0, for what
-// came before may not be the whole text, and an empty text is no job. No signal interrupts a read: the program handles none.
+// came before may not be the whole text, and an empty text is no job. No signal interrupts a read: the program handles none. A read
+// may give less than it was asked for, so the next one goes on behind it: std's methods that read to the end want a heap.
 fn read_text(input: &mut impl Read, text: &mut [u8]) -> usize
     requires { longest_of N + 1 ≡ length text.old }
     ensures { IsPrefixLen result text.new }
@@ -50,10 +50,7 @@ fn answer_into(text: &[u8], out: &mut [u8]) -> usize
     ensures out_after { take result out.new ≡ answer_text text.now }
     ensures prefix_len { IsPrefixLen result out.new }
 {
-    match job_text::answer(text, out) {
-        Printed::Bytes(size) => size,
-        Printed::Refused(_) => 0,
-    }
+    job_text::answer(text, out).unwrap_or(0)
 }
 
 fn main(rt: HostRuntime) {

@@ -4,7 +4,7 @@
 
 ghost use Rattle.std.specs.Prelude.{◌≡◌, ◌+◌, ◌*◌, ◌<◌, ◌≤◌, length};
 ghost use Rattle.averaging.specs.Steps.{step_of};
-ghost use Rattle.row_core.specs.Prepared.{StepKernel, kernel_of_coefficients, Prepared};
+ghost use Rattle.row_core.specs.Prepared.{StepKernel, kernel_of_coefficients};
 ghost use Rattle.machine.specs.Rules.{current_rules};
 ghost use Rattle.machine.specs.Slots.{slot_count};
 ghost use Rattle.machine.specs.Store.{part, put, buffer_after, steps_done};
@@ -15,24 +15,22 @@ use kernel::Kernel;
 use machine::{BUFFERS_PER_SLOT, Slot};
 use row_core::Coefficients;
 
+// By a loop: the library's `copy_from_slice` calls memmove, and C's linkers are promised that memcpy and memset are all.
 fn copy(source: &[u16], target: &mut [u16])
     requires { length source.now ≡ length target.old }
     ensures { target.new ≡ source.now }
 {
-    let mut i = 0usize;
-    while i < source.len() {
-        target[i] = source[i];
-        i += 1;
+    for (place, pixel) in source.iter().enumerate() {
+        target[place] = *pixel;
     }
 }
 
-// The pixels, put into the store from a place on.
+// The pixels, put into the store from a place on: the definitions put a picture at a place, `put`, and take it from one, `part`.
 pub fn copy_in(store: &mut [u16], start: usize, pixels: &[u16])
     requires { start + length pixels.now ≤ length store.old }
     ensures { store.new ≡ put start pixels.now store.old }
 {
-    let end = start + pixels.len();
-    copy(pixels, &mut store[start..end]);
+    copy(pixels, &mut store[start..start + pixels.len()]);
 }
 
 // As many pixels of the store as the other slice has, from a place on.
@@ -40,8 +38,7 @@ pub fn copy_out(store: &[u16], start: usize, pixels: &mut [u16])
     requires { start + length pixels.old ≤ length store.now }
     ensures { pixels.new ≡ part start (length pixels.old) store.now }
 {
-    let end = start + pixels.len();
-    copy(&store[start..end], pixels);
+    copy(&store[start..start + pixels.len()], pixels);
 }
 
 // One step of the picture at one place of the store, to another place, by way of lines that have room for all of it.
@@ -54,7 +51,6 @@ fn step_loaded(
     height: usize,
     coefficients: Coefficients,
 )
-    requires prepared { Prepared coefficients }
     requires between { Between (length store.old) from to width height }
     requires width_in_bounds { height * (width + 2) ≤ length lines.old }
     ensures { store.new ≡ put to (step_of (kernel_of_coefficients coefficients) width height (part from (width * height) store.old)) store.old }
@@ -102,12 +98,14 @@ pub fn buffer_after(place: usize, done: usize) -> usize
 }
 
 // One step of the picture of a slot, from its buffer to the slot's other one, by the free number that the slot holds.
-pub fn step_slot(store: &mut [u16], slot: Slot, place: usize)
-    requires { Ready (length store.old) slot place }
-    ensures { store.new ≡ put (buffer_after current_rules place (steps_done slot + 1)) (next_image current_rules store.old place slot) store.old }
+pub fn step_slot(store: &mut [u16], slot: &Slot, place: usize)
+    requires { Ready (length store.old) slot.now place }
+    ensures { store.new ≡ put (buffer_after current_rules place (steps_done slot.now + 1)) (next_image current_rules store.old place slot.now) store.old }
 {
-    let answer = kernel::kernel_at(slot.xx, slot.xy, slot.yy, slot.free, slot.steps);
-    let kernel = answer.kernel;
+    // A filled slot has a kernel: nothing is left out.
+    let Ok(kernel) = kernel::kernel_at(slot.covariance(), slot.free, slot.steps) else {
+        return;
+    };
     let done = (slot.steps - slot.left) as usize;
     let from = buffer_after(place, done);
     let to = buffer_after(place, done + 1);

@@ -10,7 +10,8 @@ pub extern "C" fn vokhsaot_covariance_round(variance: f64, entries: &mut [i32]) 
     ensures value { result ≡ covariance_code (Shape.Round variance) entries.old }
     ensures entries_after { entries.new ≡ covariance_after (Shape.Round variance) entries.old }
 {
-    picture_calls::write_covariance(Shape::Round(variance), entries)
+    let outcome = picture_calls::write_covariance(Shape::Round(variance), entries);
+    limits::outcome_number(outcome)
 }
 
 // Writes the covariance of an oval shape, by its variances along and across a direction.
@@ -25,8 +26,7 @@ pub extern "C" fn vokhsaot_covariance_oval(
     ensures value { result ≡ covariance_code (Shape.Oval long short (record { cosine = cosine; sine = sine })) entries.old }
     ensures entries_after { entries.new ≡ covariance_after (Shape.Oval long short (record { cosine = cosine; sine = sine })) entries.old }
 {
-    picture_calls::write_covariance(
-        Shape::Oval(long, short, Direction { cosine, sine }),
-        entries,
-    )
+    let oval = Shape::Oval(long, short, Direction { cosine, sine });
+    let outcome = picture_calls::write_covariance(oval, entries);
+    limits::outcome_number(outcome)
 }

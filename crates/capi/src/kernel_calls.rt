@@ -19,7 +19,8 @@ pub extern "C" fn vokhsaot_kernel_matrix_by(
     ensures value { result ≡ kernel_code (Shape.Matrix xx xy yy) steps weights.old }
     ensures weights_after { weights.new ≡ kernel_after (choice_of choice) (Shape.Matrix xx xy yy) steps weights.old }
 {
-    picture_calls::write_kernel(choice, Shape::Matrix(xx, xy, yy), steps, weights)
+    let outcome = picture_calls::write_kernel(choice, Shape::Matrix(xx, xy, yy), steps, weights);
+    limits::outcome_number(outcome)
 }
 
 // Writes the sum and the nine weights of a kernel whose shape is round, of this variance in square pixels.
@@ -33,7 +34,8 @@ pub extern "C" fn vokhsaot_kernel_round_by(
     ensures value { result ≡ kernel_code (Shape.Round variance) steps weights.old }
     ensures weights_after { weights.new ≡ kernel_after (choice_of choice) (Shape.Round variance) steps weights.old }
 {
-    picture_calls::write_kernel(choice, Shape::Round(variance), steps, weights)
+    let outcome = picture_calls::write_kernel(choice, Shape::Round(variance), steps, weights);
+    limits::outcome_number(outcome)
 }
 
 // Writes the sum and the nine weights of a kernel whose shape is oval, by its variances along and across a direction.
@@ -51,5 +53,6 @@ pub extern "C" fn vokhsaot_kernel_oval_by(
     ensures weights_after { weights.new ≡ kernel_after (choice_of choice) (Shape.Oval long short (record { cosine = cosine; sine = sine })) steps weights.old }
 {
     let oval = Shape::Oval(long, short, Direction { cosine, sine });
-    picture_calls::write_kernel(choice, oval, steps, weights)
+    let outcome = picture_calls::write_kernel(choice, oval, steps, weights);
+    limits::outcome_number(outcome)
 }

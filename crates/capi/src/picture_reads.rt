@@ -13,7 +13,8 @@ pub extern "C" fn vokhsaot_first_x(pixels: &[u16], width: u32, height: u32, res:
     ensures value { result ≡ difference_code width height pixels.now res.old }
     ensures res_after { res.new ≡ difference_after Difference.FirstX width height pixels.now res.old }
 {
-    picture_calls::difference(Difference::FirstX, pixels, width, height, res)
+    let outcome = picture_calls::difference(Difference::FirstX, pixels, width, height, res);
+    limits::outcome_number(outcome)
 }
 
 // L(y+1) - L(y-1), twice the derivative in y, at every place.
@@ -22,7 +23,8 @@ pub extern "C" fn vokhsaot_first_y(pixels: &[u16], width: u32, height: u32, res:
     ensures value { result ≡ difference_code width height pixels.now res.old }
     ensures res_after { res.new ≡ difference_after Difference.FirstY width height pixels.now res.old }
 {
-    picture_calls::difference(Difference::FirstY, pixels, width, height, res)
+    let outcome = picture_calls::difference(Difference::FirstY, pixels, width, height, res);
+    limits::outcome_number(outcome)
 }
 
 // L(x+1) - 2 L + L(x-1), at every place.
@@ -31,7 +33,8 @@ pub extern "C" fn vokhsaot_second_x(pixels: &[u16], width: u32, height: u32, res
     ensures value { result ≡ difference_code width height pixels.now res.old }
     ensures res_after { res.new ≡ difference_after Difference.SecondX width height pixels.now res.old }
 {
-    picture_calls::difference(Difference::SecondX, pixels, width, height, res)
+    let outcome = picture_calls::difference(Difference::SecondX, pixels, width, height, res);
+    limits::outcome_number(outcome)
 }
 
 // L(y+1) - 2 L + L(y-1), at every place.
@@ -40,7 +43,8 @@ pub extern "C" fn vokhsaot_second_y(pixels: &[u16], width: u32, height: u32, res
     ensures value { result ≡ difference_code width height pixels.now res.old }
     ensures res_after { res.new ≡ difference_after Difference.SecondY width height pixels.now res.old }
 {
-    picture_calls::difference(Difference::SecondY, pixels, width, height, res)
+    let outcome = picture_calls::difference(Difference::SecondY, pixels, width, height, res);
+    limits::outcome_number(outcome)
 }
 
 // L(+,+) - L(-,+) - L(+,-) + L(-,-), four times the mixed derivative, at every place.
@@ -49,7 +53,8 @@ pub extern "C" fn vokhsaot_mixed(pixels: &[u16], width: u32, height: u32, res: &
     ensures value { result ≡ difference_code width height pixels.now res.old }
     ensures res_after { res.new ≡ difference_after Difference.Mixed width height pixels.now res.old }
 {
-    picture_calls::difference(Difference::Mixed, pixels, width, height, res)
+    let outcome = picture_calls::difference(Difference::Mixed, pixels, width, height, res);
+    limits::outcome_number(outcome)
 }
 
 // The cosine times the first difference in x and the sine times that in y, at every place. Refusals 4, 6 and 9.
@@ -66,7 +71,8 @@ pub extern "C" fn vokhsaot_directional(
     ensures res_after { res.new ≡ directional_after (record { cosine = cosine; sine = sine }) width height pixels.now res.old }
 {
     let direction = Direction { cosine, sine };
-    picture_calls::directional(direction, pixels, width, height, res)
+    let outcome = picture_calls::directional(direction, pixels, width, height, res);
+    limits::outcome_number(outcome)
 }
 
 // The pixel at a column and a row, the nearest one outside the picture. Refusals 6 and 9.
@@ -82,5 +88,6 @@ pub extern "C" fn vokhsaot_pixel(
     ensures value { result ≡ reading_number (reading_of width height pixels.now column row) }
     ensures pixel_after { pixel.new ≡ value_or (reading_values (reading_of width height pixels.now column row)) pixel.old }
 {
-    picture_calls::pixel_at(pixels, width, height, column, row, pixel)
+    let outcome = picture_calls::pixel_at(pixels, width, height, column, row, pixel);
+    limits::outcome_number(outcome)
 }

@@ -27,7 +27,8 @@ pub extern "C" fn vokhsaot_run_matrix_by(
     ensures second_after { second.new ≡ (run_of (choice_of choice) (Shape.Matrix xx xy yy) steps width height first.old second.old).second }
 {
     let matrix = Shape::Matrix(xx, xy, yy);
-    picture_calls::run(choice, matrix, steps, width, height, first, second)
+    let outcome = picture_calls::run(choice, matrix, steps, width, height, first, second);
+    limits::outcome_number(outcome)
 }
 
 // A run with the kernel whose shape is round, of this variance in square pixels.
@@ -46,7 +47,8 @@ pub extern "C" fn vokhsaot_run_round_by(
     ensures second_after { second.new ≡ (run_of (choice_of choice) (Shape.Round variance) steps width height first.old second.old).second }
 {
     let round = Shape::Round(variance);
-    picture_calls::run(choice, round, steps, width, height, first, second)
+    let outcome = picture_calls::run(choice, round, steps, width, height, first, second);
+    limits::outcome_number(outcome)
 }
 
 // A run with the kernel whose shape is oval, by its variances along and across a direction.
@@ -68,7 +70,8 @@ pub extern "C" fn vokhsaot_run_oval_by(
     ensures second_after { second.new ≡ (run_of (choice_of choice) (Shape.Oval long short (record { cosine = cosine; sine = sine })) steps width height first.old second.old).second }
 {
     let oval = Shape::Oval(long, short, Direction { cosine, sine });
-    picture_calls::run(choice, oval, steps, width, height, first, second)
+    let outcome = picture_calls::run(choice, oval, steps, width, height, first, second);
+    limits::outcome_number(outcome)
 }
 
 // Which of its two pictures a run of so many steps ends in: writes 0 for the first, 1 for the second. Refusal 5.
@@ -77,7 +80,8 @@ pub extern "C" fn vokhsaot_shown(steps: u32, picture: &mut u32) -> u32
     ensures value { result ≡ shown_code steps }
     ensures picture_after { picture.new ≡ shown_picture_after steps picture.old }
 {
-    picture_calls::shown(steps, picture)
+    let outcome = picture_calls::shown(steps, picture);
+    limits::outcome_number(outcome)
 }
 
 // A run within one picture, with the kernel whose shape is a covariance matrix in 1/4096 square pixel.
@@ -96,7 +100,8 @@ pub extern "C" fn vokhsaot_run_in_place_matrix_by(
     ensures picture_after { picture.new ≡ in_place_after (choice_of choice) (Shape.Matrix xx xy yy) steps width height picture.old }
 {
     let shape = Shape::Matrix(xx, xy, yy);
-    picture_calls::run_in_place(choice, shape, steps, width, height, picture)
+    let outcome = picture_calls::run_in_place(choice, shape, steps, width, height, picture);
+    limits::outcome_number(outcome)
 }
 
 // A run within one picture, with the kernel whose shape is round, of this variance in square pixels.
@@ -113,7 +118,8 @@ pub extern "C" fn vokhsaot_run_in_place_round_by(
     ensures picture_after { picture.new ≡ in_place_after (choice_of choice) (Shape.Round variance) steps width height picture.old }
 {
     let shape = Shape::Round(variance);
-    picture_calls::run_in_place(choice, shape, steps, width, height, picture)
+    let outcome = picture_calls::run_in_place(choice, shape, steps, width, height, picture);
+    limits::outcome_number(outcome)
 }
 
 // A run within one picture, with the kernel whose shape is oval, by its variances along and across a direction.
@@ -133,5 +139,6 @@ pub extern "C" fn vokhsaot_run_in_place_oval_by(
     ensures picture_after { picture.new ≡ in_place_after (choice_of choice) (Shape.Oval long short (record { cosine = cosine; sine = sine })) steps width height picture.old }
 {
     let shape = Shape::Oval(long, short, Direction { cosine, sine });
-    picture_calls::run_in_place(choice, shape, steps, width, height, picture)
+    let outcome = picture_calls::run_in_place(choice, shape, steps, width, height, picture);
+    limits::outcome_number(outcome)
 }

@@ -5,8 +5,6 @@ ghost use Rattle.job_parser.specs.declared.Format.TheVariants.{J, N};
 ghost use Rattle.job_converter.specs.Conversion.{conversion, output_after};
 ghost use Rattle.job_text.specs.Answer.{answered, printed_number, printed_values};
 
-use job_text::Printed;
-
 // The answer to a job text at the start of the lent buffer, and its length. Refusal 9 where the buffer is shorter than an answer
 // can be.
 #[unsafe(no_mangle)]
@@ -16,11 +14,11 @@ pub extern "C" fn vokhsaot_answer_text(text: &[u8], out: &mut [u8], length: &mut
     ensures length_after { length.new ≡ value_or (printed_values (answered text.now out.old).answer) length.old }
 {
     match job_text::answer(text, out) {
-        Printed::Bytes(count) => {
+        Ok(count) => {
             *length = count;
             0
         }
-        Printed::Refused(code) => limits::error_number(code),
+        Err(code) => u32::from(code),
     }
 }
 

@@ -1,17 +1,18 @@
 -- What the answer of `covariance_of` tells its callers: three numbers where both tests passed, and else the error code that
 -- every list of checks that begins with these two comes to. Assumes nothing.
-use Rattle.std.proofs.Common.{◌≡◌, ℕ, ◌<◌, Bool, true, false, List, [], ◌∷◌, ◌++◌, ℤ, refl, arith}
-use Rattle.limits.specs.Errors.{Check, ◌otherwise◌, first_refusal, outcome_number}
+use Rattle.std.proofs.Common.{◌≡◌, ℕ, ◌<◌, Bool, true, false, List, [], ◌∷◌, ◌++◌, ℤ, refl, sym, ap, ◌∙◌, arith}
+use Rattle.limits.specs.Errors.{Check, ◌otherwise◌, first_refusal, outcome_number, answer_with}
 use Rattle.limits.specs.declared.ErrorCode.{ErrorCode}
 use Rattle.limits.specs.declared.ErrorCode.TheVariants.{VarianceOutOfRange, NotADirection}
-use Rattle.limits.specs.declared.Outcome.{Outcome}
 use Rattle.kernel.specs.declared.Choice.{Choice}
-use Rattle.kernel.specs.Answer.{no_kernel, kernel_answer}
+use Rattle.kernel.specs.Answer.{kernel_answer}
+use Rattle.limits.proofs.Checks.{all_hold, accepted_alone, refused_alone, or_else, in_turn}
 use Rattle.covariance.specs.declared.Shape.{Shape}
 use Rattle.covariance.specs.declared.Shape.TheVariants.{Matrix}
-use Rattle.covariance.specs.declared.Covariance.{Covariance}
+use Rattle.kernel.specs.declared.Covariance.{Covariance}
 use Rattle.covariance.specs.Shapes.{variances_fine, direction_fine, covariance_xx, covariance_xy, covariance_yy}
-use Rattle.covariance.specs.Answer.{covariance_number, covariance_values, shape_checks, covariance_with, covariance_answer, shape_kernel_answer}
+use Rattle.covariance.specs.Answer.{covariance_number, covariance_values, shape_checks, entries_of, covariance_answer, shape_kernel_answer}
+use Rattle.std.specs.Prelude.{Result, Ok, Err}
 
 pub record Passed (shape : Shape) (xx xy yy : ℤ) : Type 0 where
   pub variances : variances_fine shape ≡ true
@@ -21,7 +22,7 @@ pub record Passed (shape : Shape) (xx xy yy : ℤ) : Type 0 where
   pub is_yy : covariance_yy shape ≡ yy
 
 -- "A Matrix never meets this", and gives its own numbers
-pub matrix_as_it_is : (xx xy yy : ℤ) → covariance_answer (Matrix xx xy yy) ≡ Covariance.Entries xx xy yy
+pub matrix_as_it_is : (xx xy yy : ℤ) → covariance_answer (Matrix xx xy yy) ≡ Ok (record { xx = xx; xy = xy; yy = yy })
 unfolding variances_fine direction_fine covariance_xx covariance_xy covariance_yy
 matrix_as_it_is xx xy yy = refl
 
@@ -29,28 +30,27 @@ tests : Bool → Bool → List Check → List Check
 tests v d rest = (v otherwise VarianceOutOfRange) ∷ (d otherwise NotADirection) ∷ rest
 
 module _ (shape : Shape) where
-  answer : Bool → Bool → Covariance
+  answer : Bool → Bool → Result Covariance ErrorCode
   unfolding tests
-  answer v d = covariance_with (first_refusal (tests v d [])) shape
+  answer v d = answer_with (first_refusal (tests v d [])) (entries_of shape)
 
-  pub passed : (xx xy yy : ℤ) → covariance_answer shape ≡ Covariance.Entries xx xy yy → Passed shape xx xy yy
-  unfolding tests answer
-  passed xx xy yy h = go (variances_fine shape) (direction_fine shape) refl refl h
-    where
-      go : (v d : Bool) → variances_fine shape ≡ v → direction_fine shape ≡ d → answer v d ≡ Covariance.Entries xx xy yy → Passed shape xx xy yy
-      go true true v d h = record { variances = v; direction = d; is_xx = cc; is_xy = cc; is_yy = cc }
-      go true false v d h = let z : ◌≡◌ {A = ℕ} 0 1 = cc in absurd (omega arith)
-      go false d v w h = let z : ◌≡◌ {A = ℕ} 0 1 = cc in absurd (omega arith)
+  pub passed : (xx xy yy : ℤ) → covariance_answer shape ≡ Ok (record { xx = xx; xy = xy; yy = yy }) → Passed shape xx xy yy
+  passed xx xy yy h =
+      let t = accepted_alone (first_refusal (shape_checks shape)) (entries_of shape) (record { xx = xx; xy = xy; yy = yy }) h in
+      let held = all_hold (shape_checks shape) t.0 in
+      record {
+        variances = held.0;
+        direction = held.1.0;
+        is_xx = sym (ap (λ e. e.xx) t.1);
+        is_xy = sym (ap (λ e. e.xy) t.1);
+        is_yy = sym (ap (λ e. e.yy) t.1);
+      }
 
-  pub stopped : (code : ErrorCode) (rest : List Check) → covariance_answer shape ≡ Covariance.Refused code
-      → first_refusal (shape_checks shape ++ rest) ≡ Outcome.Refused code
-  unfolding tests answer
-  stopped code rest h = go (variances_fine shape) (direction_fine shape) h
-    where
-      go : (v d : Bool) → answer v d ≡ Covariance.Refused code → first_refusal (tests v d rest) ≡ Outcome.Refused code
-      go true true h = let z : ◌≡◌ {A = ℕ} 0 1 = cc in absurd (omega arith)
-      go true false h = cc
-      go false d h = cc
+  pub stopped : (code : ErrorCode) (rest : List Check) → covariance_answer shape ≡ Err code
+      → first_refusal (shape_checks shape ++ rest) ≡ Err code
+  stopped code rest h =
+      in_turn (shape_checks shape) rest
+      ∙ ap (λ o. or_else o (first_refusal rest)) (refused_alone (first_refusal (shape_checks shape)) (entries_of shape) code h)
 
   -- an answer's number is that of the first check that fails, and it carries the three numbers exactly where none does
   pub numbered : covariance_number (covariance_answer shape) ≡ outcome_number (first_refusal (shape_checks shape))
@@ -78,6 +78,6 @@ module _ (shape : Shape) where
   pub kernel_passed : (choice : Choice) {xx xy yy : ℤ} (k : ℕ) → Passed shape xx xy yy → kernel_answer choice xx xy yy k ≡ shape_kernel_answer choice shape k
   kernel_passed choice k p = rw (p.variances, p.direction, p.is_xx, p.is_xy, p.is_yy)
 
-  pub kernel_stopped : (choice : Choice) (code : ErrorCode) (k : ℕ) → covariance_answer shape ≡ Covariance.Refused code
-      → record { outcome = Outcome.Refused code; kernel = no_kernel } ≡ shape_kernel_answer choice shape k
+  pub kernel_stopped : (choice : Choice) (code : ErrorCode) (k : ℕ) → covariance_answer shape ≡ Err code
+      → shape_kernel_answer choice shape k ≡ Err code
   kernel_stopped choice code k h = rw (stopped code _ h)

@@ -7,7 +7,7 @@ use lib.Ieee.Fits.{mul-fits}
 use Rattle.limits.proofs.Laws.{both_true}
 use Rattle.covariance.specs.declared.Direction.{Direction}
 use Rattle.covariance.specs.declared.Shape.TheVariants.{Oval}
-use Rattle.covariance.specs.declared.Covariance.{Covariance}
+use Rattle.std.specs.Prelude.{Ok}
 use Rattle.covariance.specs.Floats.{◌⊕◌, ◌⊖◌, ◌⊗◌}
 use Rattle.covariance.specs.Units.{nearest_units}
 use Rattle.covariance.specs.Cuts.{Within}
@@ -43,13 +43,13 @@ mixed p q z t P Q e =
 module _ (long short : Float) (L : variance_in_range long ≡ true) (S : variance_in_range short ≡ true) where
   answered : (d : Direction) (xx xy yy : ℤ) → direction_in_range d ≡ true
       → nearest_units (oval_xx long short d) ≡ xx → nearest_units (oval_xy long short d) ≡ xy → nearest_units (oval_yy long short d) ≡ yy
-      → covariance_answer (Oval long short d) ≡ Covariance.Entries xx xy yy
+      → covariance_answer (Oval long short d) ≡ Ok (record { xx = xx; xy = xy; yy = yy })
   unfolding variances_fine direction_fine covariance_xx covariance_xy covariance_yy
   answered d xx xy yy D x z y = rw (L, S, D, x, z, y)
 
   module _ (l : T (fits binary64 long)) (k : T (fits binary64 short)) where
     x_axis : (d : Direction) (s t : Bool) → d.cosine ≡ unit_of s → d.sine ≡ zero_of t → direction_in_range d ≡ true
-        → covariance_answer (Oval long short d) ≡ Covariance.Entries (nearest_units long) (pos 0) (nearest_units short)
+        → covariance_answer (Oval long short d) ≡ Ok (record { xx = (nearest_units long); xy = (pos 0); yy = (nearest_units short) })
     x_axis d s t u z D =
         answered d (nearest_units long) (pos 0) (nearest_units short) D
         (rw (u, z) (first long short l (variance_within long L) (variance_within short S) s t))
@@ -57,7 +57,7 @@ module _ (long short : Float) (L : variance_in_range long ≡ true) (S : varianc
         (rw (u, z) (second short long k (variance_within short S) (variance_within long L) s t))
 
     y_axis : (d : Direction) (s t : Bool) → d.cosine ≡ zero_of s → d.sine ≡ unit_of t → direction_in_range d ≡ true
-        → covariance_answer (Oval long short d) ≡ Covariance.Entries (nearest_units short) (pos 0) (nearest_units long)
+        → covariance_answer (Oval long short d) ≡ Ok (record { xx = (nearest_units short); xy = (pos 0); yy = (nearest_units long) })
     y_axis d s t z u D =
         answered d (nearest_units short) (pos 0) (nearest_units long) D
         (rw (z, u) (second short long k (variance_within short S) (variance_within long L) t s))
@@ -67,7 +67,7 @@ module _ (long short : Float) (L : variance_in_range long ≡ true) (S : varianc
     -- "where one of c, s is 0 and the other 1 or −1 (the two zeros count as equal)": a cosine of 1 or −1 leaves the variances in
     -- their places, and a sine of 1 or −1 exchanges them
     module _ (d : Direction) (c : T (fits binary64 d.cosine)) (s : T (fits binary64 d.sine)) where
-      pub aligned_x : along_x d ≡ true → covariance_answer (Oval long short d) ≡ Covariance.Entries (nearest_units long) (pos 0) (nearest_units short)
+      pub aligned_x : along_x d ≡ true → covariance_answer (Oval long short d) ≡ Ok (record { xx = (nearest_units long); xy = (pos 0); yy = (nearest_units short) })
       unfolding along_x
       aligned_x h =
           let tests = both_true (is_unit d.cosine) (is_zero d.sine) h in
@@ -75,7 +75,7 @@ module _ (long short : Float) (L : variance_in_range long ≡ true) (S : varianc
           let z = is_zero_lem d.sine s tests.1 in
           x_axis d u.0 z.0 u.1 z.1 (accepted_along_x d h)
 
-      pub aligned_y : along_y d ≡ true → covariance_answer (Oval long short d) ≡ Covariance.Entries (nearest_units short) (pos 0) (nearest_units long)
+      pub aligned_y : along_y d ≡ true → covariance_answer (Oval long short d) ≡ Ok (record { xx = (nearest_units short); xy = (pos 0); yy = (nearest_units long) })
       unfolding along_y
       aligned_y h =
           let tests = both_true (is_zero d.cosine) (is_unit d.sine) h in

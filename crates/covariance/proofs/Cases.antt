@@ -10,7 +10,9 @@ use Rattle.kernel.specs.Existence.{kernel_exists}
 use Rattle.covariance.specs.declared.Direction.{Direction}
 use Rattle.covariance.specs.declared.Shape.{Shape}
 use Rattle.covariance.specs.declared.Shape.TheVariants.{Matrix, Round, Oval}
-use Rattle.covariance.specs.declared.Covariance.{Covariance}
+use Rattle.kernel.specs.declared.Covariance.{Covariance}
+use Rattle.std.specs.Prelude.{Result, Ok, Err}
+use Rattle.limits.specs.declared.ErrorCode.{ErrorCode}
 use Rattle.covariance.specs.Floats.{in_range, numerator, denominator}
 use Rattle.covariance.specs.Units.{nearest_units, WithinHalfUnit}
 use Rattle.covariance.specs.Cuts.{whole_below, whole_above}
@@ -128,13 +130,13 @@ too_low = of_bits binary64 0x3fef_fbff_bff7_febf
 
 -- ---- a shape, and what it gives: the covariance or the refusal, REFERENCE's number of it (0: accepted), and its values
 abbrev pub Given : Type 0
-Given = Shape × Covariance × ℕ × List ℤ
+Given = Shape × Result Covariance ErrorCode × ℕ × List ℤ
 
 abbrev pub entries : Shape → ℤ → ℤ → ℤ → Given
-entries shape xx xy yy = (shape, Covariance.Entries xx xy yy, 0, xx ∷ xy ∷ yy ∷ [])
+entries shape xx xy yy = (shape, Ok (record { xx = xx; xy = xy; yy = yy }), 0, xx ∷ xy ∷ yy ∷ [])
 
 abbrev pub refused : Shape → ErrorCode → ℕ → Given
-refused shape code number = (shape, Covariance.Refused code, number, [])
+refused shape code number = (shape, Err code, number, [])
 
 abbrev pub covariances : List Given
 covariances =

@@ -4,14 +4,14 @@
 #![tactic(auto)]
 
 ghost use Rattle.std.specs.Prelude.{◌≡◌, ◌+◌, ◌≤◌, true, pos, neg_ℤ};
-ghost use Rattle.covariance.specs.Floats.{in_range};
+ghost use Rattle.covariance.specs.Floats.{◌⊕◌, ◌⊗◌, in_range};
 ghost use Rattle.covariance.specs.Units.{nearest_units};
 ghost use Rattle.covariance.specs.Cuts.{Within, UpTo, whole_below, whole_above, most_squares, most_units, most_halves};
-ghost use Rattle.covariance.specs.Shapes.{variance_in_range, direction_in_range, variances_fine, direction_fine, oval_xx, oval_xy, oval_yy};
+ghost use Rattle.covariance.specs.Shapes.{variance_in_range, cosine_in_range, square_in_range, direction_in_range, variances_fine, direction_fine, oval_xy};
 ghost use Rattle.kernel.specs.Choice.{default_choice};
 ghost use Rattle.covariance.specs.Answer.{entries_of, covariance_answer, shape_kernel_answer};
 
-use kernel::{Choice, KernelAnswer};
+use kernel::{Choice, Covariance, Kernel};
 use limits::ErrorCode;
 
 // REFERENCE's direction: a cosine c and a sine s.
@@ -30,16 +30,10 @@ pub enum Shape {
     Oval(f64, f64, Direction),
 }
 
-// The entries xx, xy, yy of a covariance matrix in 1/4096 square pixel, or a refusal.
-#[derive(Clone, Copy)]
-pub enum Covariance {
-    Entries(i32, i32, i32),
-    Refused(ErrorCode),
-}
-
 // In a square pixel.
 const HALF_UNITS: f64 = 8192.0;
 
+// A cast with its bound, here and below: `i32::try_from` would have a refusal that cannot occur.
 fn nonnegative(size: u64) -> i32
     requires { size ≤ most_units }
     ensures { result ≡ pos size }
@@ -83,10 +77,11 @@ fn nearest_units(squares: f64) -> i32
 }
 
 // Both ends are inside, and a NaN is in no range: each comparison with one is false.
+#[tactic(auto, unfolding(crate::specs::Floats::in_range))]
 fn in_range(low: f64, high: f64, x: f64) -> bool
     ensures { result ≡ in_range low high x }
 {
-    if low <= x { x <= high } else { false }
+    low <= x && x <= high
 }
 
 fn variance_in_range(variance: f64) -> bool
@@ -95,52 +90,54 @@ fn variance_in_range(variance: f64) -> bool
     in_range(0.0, 64.0, variance)
 }
 
+fn cosine_in_range(x: f64) -> bool
+    ensures { result ≡ cosine_in_range x }
+{
+    in_range(-1.0, 1.0, x)
+}
+
+fn square_in_range(x: f64) -> bool
+    ensures { result ≡ square_in_range x }
+{
+    in_range(1023.0 / 1024.0, 1025.0 / 1024.0, x)
+}
+
 // The test of refusal 4.
+#[tactic(auto, unfolding(crate::specs::Shapes::direction_in_range))]
 pub fn direction_in_range(direction: Direction) -> bool
     ensures { result ≡ direction_in_range direction }
 {
     let c = direction.cosine;
     let s = direction.sine;
-    if in_range(-1.0, 1.0, c) {
-        if in_range(-1.0, 1.0, s) {
-            return in_range(1023.0 / 1024.0, 1025.0 / 1024.0, c * c + s * s);
-        }
-    }
-    false
+    cosine_in_range(c) && cosine_in_range(s) && square_in_range(c * c + s * s)
 }
 
+#[tactic(auto, unfolding(crate::specs::Shapes::variances_fine))]
 fn variances_fine(shape: Shape) -> bool
     ensures { result ≡ variances_fine shape }
 {
     match shape {
-        Shape::Matrix(_, _, _) => true,
+        Shape::Matrix(..) => true,
         Shape::Round(variance) => variance_in_range(variance),
-        Shape::Oval(long, short, _) => {
-            if variance_in_range(long) {
-                variance_in_range(short)
-            } else {
-                false
-            }
-        }
+        Shape::Oval(long, short, _) => variance_in_range(long) && variance_in_range(short),
     }
 }
 
+#[tactic(auto, unfolding(crate::specs::Shapes::direction_fine))]
 fn direction_fine(shape: Shape) -> bool
     ensures { result ≡ direction_fine shape }
 {
     match shape {
-        Shape::Matrix(_, _, _) => true,
-        Shape::Round(_) => true,
+        Shape::Matrix(..) | Shape::Round(_) => true,
         Shape::Oval(_, _, direction) => direction_in_range(direction),
     }
 }
 
-fn oval_xx(long: f64, short: f64, direction: Direction) -> f64
-    ensures { result ≡ oval_xx long short direction }
+// A variance along an axis, of which these are the shares: c and s give xx, s and c give yy.
+fn oval_variance(long: f64, short: f64, a: f64, b: f64) -> f64
+    ensures { result ≡ long ⊗ (a ⊗ a) ⊕ short ⊗ (b ⊗ b) }
 {
-    let c = direction.cosine;
-    let s = direction.sine;
-    long * (c * c) + short * (s * s)
+    long * (a * a) + short * (b * b)
 }
 
 fn oval_xy(long: f64, short: f64, direction: Direction) -> f64
@@ -151,65 +148,61 @@ fn oval_xy(long: f64, short: f64, direction: Direction) -> f64
     (long - short) * (c * s)
 }
 
-fn oval_yy(long: f64, short: f64, direction: Direction) -> f64
-    ensures { result ≡ oval_yy long short direction }
-{
-    let c = direction.cosine;
-    let s = direction.sine;
-    long * (s * s) + short * (c * c)
-}
-
 fn oval_entries(long: f64, short: f64, direction: Direction) -> Covariance
     requires { (variances_fine (Shape.Oval long short direction) ≡ true) × (direction_fine (Shape.Oval long short direction) ≡ true) }
     ensures { result ≡ entries_of (Shape.Oval long short direction) }
 {
-    let xx = nearest_units(oval_xx(long, short, direction));
-    let xy = nearest_units(oval_xy(long, short, direction));
-    let yy = nearest_units(oval_yy(long, short, direction));
-    Covariance::Entries(xx, xy, yy)
+    let c = direction.cosine;
+    let s = direction.sine;
+    Covariance {
+        xx: nearest_units(oval_variance(long, short, c, s)),
+        xy: nearest_units(oval_xy(long, short, direction)),
+        yy: nearest_units(oval_variance(long, short, s, c)),
+    }
 }
 
+#[tactic(auto, unfolding(crate::specs::Shapes::covariance_xx, crate::specs::Shapes::covariance_xy, crate::specs::Shapes::covariance_yy))]
 fn entries_of(shape: Shape) -> Covariance
     requires { (variances_fine shape ≡ true) × (direction_fine shape ≡ true) }
     ensures { result ≡ entries_of shape }
 {
     match shape {
-        Shape::Matrix(xx, xy, yy) => Covariance::Entries(xx, xy, yy),
+        Shape::Matrix(xx, xy, yy) => Covariance { xx, xy, yy },
         Shape::Round(variance) => {
             let units = nearest_units(variance);
-            Covariance::Entries(units, 0, units)
+            Covariance {
+                xx: units,
+                xy: 0,
+                yy: units,
+            }
         }
         Shape::Oval(long, short, direction) => oval_entries(long, short, direction),
     }
 }
 
 // The covariance of a shape, or refusal 3 or 4.
-pub fn covariance_of(shape: Shape) -> Covariance
+pub fn covariance_of(shape: Shape) -> Result<Covariance, ErrorCode>
     ensures { result ≡ covariance_answer shape }
 {
-    let variances = variances_fine(shape);
-    let direction = direction_fine(shape);
-    if !variances {
-        return Covariance::Refused(ErrorCode::VarianceOutOfRange);
+    if !variances_fine(shape) {
+        return Err(ErrorCode::VarianceOutOfRange);
     }
-    if !direction {
-        return Covariance::Refused(ErrorCode::NotADirection);
+    if !direction_fine(shape) {
+        return Err(ErrorCode::NotADirection);
     }
-    entries_of(shape)
+    Ok(entries_of(shape))
 }
 
 // The kernel of a shape and a step count by a choice, or refusal 3, 4, 5 or 11, the first that applies in that order.
-pub fn kernel_of_shape_by(choice: Choice, shape: Shape, steps: u32) -> KernelAnswer
+pub fn kernel_of_shape_by(choice: Choice, shape: Shape, steps: u32) -> Result<Kernel, ErrorCode>
     ensures { result ≡ shape_kernel_answer choice shape steps }
 {
-    match covariance_of(shape) {
-        Covariance::Entries(xx, xy, yy) => kernel::kernel_by(choice, xx, xy, yy, steps),
-        Covariance::Refused(code) => kernel::refused(code),
-    }
+    let covariance = covariance_of(shape)?;
+    kernel::kernel_by(choice, covariance, steps)
 }
 
-// The same where no choice is named.
-pub fn kernel_of_shape(shape: Shape, steps: u32) -> KernelAnswer
+// The same where no choice is named (REFERENCE, S2.8): a public call, and no twin.
+pub fn kernel_of_shape(shape: Shape, steps: u32) -> Result<Kernel, ErrorCode>
     ensures { result ≡ shape_kernel_answer default_choice shape steps }
 {
     kernel_of_shape_by(Choice::Binomial, shape, steps)

@@ -5,285 +5,251 @@
 // there were, for how many of them the crate answers otherwise, and how many have each answer.
 #![tactic(auto)]
 
-ghost use Rattle.std.specs.Prelude.{◌<◌, ◌≤◌, length};
+ghost use Rattle.std.specs.Prelude.{◌≤◌, ◌≡◌, length};
 
-use covariance::{Covariance, Direction, Shape};
-use kernel::Kernel;
-use std::io;
+use covariance::{Direction, Shape};
+use kernel::{Covariance, Kernel};
 use std::io::Read;
+use std::{io, mem};
 
-// The line that is being read, and what the lines before it came to.
+// What a line tells where the crate refuses: zeros.
+const NO_COVARIANCE: Covariance = Covariance {
+    xx: 0,
+    xy: 0,
+    yy: 0,
+};
+
+const NO_KERNEL: Kernel = Kernel {
+    weights: [0; kernel::WEIGHTS],
+    sum: 0,
+};
+
+// The kind of a shape, by the letter at the start of its line.
 #[derive(Clone, Copy)]
-struct Progress {
-    kind: u8,
+enum Kind {
+    Round,
+    Oval,
+    Matrix,
+}
+
+impl From<u8> for Kind {
+    fn from(letter: u8) -> Self {
+        match letter {
+            b'R' => Kind::Round,
+            b'O' => Kind::Oval,
+            _ => Kind::Matrix,
+        }
+    }
+}
+
+impl Kind {
+    // How many numbers tell a shape of the kind.
+    fn count(self) -> usize
+        ensures { result ≤ 4 }
+    {
+        match self {
+            Kind::Round => 1,
+            Kind::Oval => 4,
+            Kind::Matrix => 3,
+        }
+    }
+}
+
+// The shape that a kind and its numbers tell, if they are as many as the kind wants.
+fn shape_of(kind: Kind, numbers: &[u64]) -> Option<Shape> {
+    match (kind, numbers) {
+        (Kind::Round, [variance]) => Some(Shape::Round(float_of(*variance))),
+        (Kind::Oval, [long, short, cosine, sine]) => {
+            let direction = Direction {
+                cosine: float_of(*cosine),
+                sine: float_of(*sine),
+            };
+            Some(Shape::Oval(float_of(*long), float_of(*short), direction))
+        }
+        (Kind::Matrix, [xx, xy, yy]) => {
+            Some(Shape::Matrix(signed_of(*xx), signed_of(*xy), signed_of(*yy)))
+        }
+        _ => None,
+    }
+}
+
+// The float that the bits make; each NaN is the same one.
+#[tactic(auto, using(std::proofs::lemmas::Float::not_nan_f64_bits))]
+fn float_of(bits: u64) -> f64 {
+    if bits % 0x8000_0000_0000_0000 <= 0x7ff0_0000_0000_0000 {
+        f64::from_bits(bits)
+    } else {
+        f64::NAN
+    }
+}
+
+// The number that a field holds, or the least one where it does not fit.
+fn signed_of(field: u64) -> i32 {
+    i32::try_from(field.cast_signed()).unwrap_or(i32::MIN)
+}
+
+// The number that is being read: its digits so far, once there is one, and whether a minus was read.
+#[derive(Clone, Copy, Default)]
+struct Number {
+    size: Option<u64>,
+    negative: bool,
+}
+
+impl Number {
+    // A digit more, unless 64 bits have no room for it.
+    fn push(&mut self, digit: u8) {
+        let size = self.size.unwrap_or(0);
+        let tens = size.checked_mul(10);
+        self.size = Some(tens.map_or(size, |tens| tens.wrapping_add(u64::from(digit))));
+    }
+
+    // A negative number is kept in 64 bits as its complement.
+    fn value(self) -> Option<u64> {
+        self.size.map(|size| if self.negative {
+            size.wrapping_neg()
+        } else {
+            size
+        })
+    }
+}
+
+// The line that is being read: its fields so far, before the number that is being read. A field that a line is too short for is
+// that of an earlier line, so an array and a count stand here for a list that would be emptied with each line.
+#[derive(Drop)]
+struct Line {
+    kind: Kind,
     fields: [u64; 20],
     count: usize,
-    value: u64,
-    started: bool,
-    negative: bool,
+    number: Number,
+    ghost fits: { count ≤ 20 },
+}
+
+impl Line {
+    // The number that was read, if there is one and room is left, is the next field.
+    fn end_field(&mut self) {
+        let number = mem::take(&mut self.number);
+        if let Some(value) = number.value() {
+            if let Some(field) = self.fields.get_mut(self.count) {
+                *field = value;
+                self.count += 1;
+            }
+        }
+    }
+
+    // The answer that the line tells.
+    fn answer(&self) -> u64 {
+        self.fields[self.kind.count() + 1]
+    }
+
+    // Whether the line is whole, and the crate answers what it tells.
+    fn agrees(&self) -> bool {
+        let Some((numbers, rest)) = self.fields[..self.count].split_at_checked(self.kind.count())
+        else {
+            return false;
+        };
+        let [steps, answer, xx, xy, yy, weights @ .., sum] = rest else {
+            return false;
+        };
+        let Ok(weights) = <[u64; 9]>::try_from(weights) else {
+            return false;
+        };
+        let Some(shape) = shape_of(self.kind, numbers) else {
+            return false;
+        };
+        let covariance = Covariance {
+            xx: signed_of(*xx),
+            xy: signed_of(*xy),
+            yy: signed_of(*yy),
+        };
+        let kernel = Kernel { weights, sum: *sum };
+        let steps = (*steps % 0x1_0000_0000) as u32;
+        covariance::covariance_of(shape).unwrap_or(NO_COVARIANCE) == covariance
+            && match covariance::kernel_of_shape(shape, steps) {
+                Ok(made) => *answer == 0 && made == kernel,
+                Err(code) => *answer == u64::from(u32::from(code)) && kernel == NO_KERNEL,
+            }
+    }
+}
+
+// What the lines came to, and the one that is being read.
+#[derive(Drop)]
+struct Tally {
+    line: Line,
     lines: u64,
     wrong: u64,
     answers: [u64; 14],
-    ended: bool,
 }
 
-fn start() -> Progress {
-    Progress {
-        kind: 0,
-        fields: [0; 20],
-        count: 0,
-        value: 0,
-        started: false,
-        negative: false,
-        lines: 0,
-        wrong: 0,
-        answers: [0; 14],
-        ended: false,
-    }
-}
-
-// The number that was read, if there is one, is the next field; a negative one is kept in 64 bits as its complement.
-fn with_field(p: Progress) -> Progress {
-    let mut next = p;
-    let at = p.count;
-    let v = p.value;
-    next.value = 0;
-    next.started = false;
-    next.negative = false;
-    if !p.started {
-        return next;
-    }
-    if 20 <= at {
-        return next;
-    }
-    if p.negative {
-        next.fields[at] = std::num::wrapping_sub_u64(0, v);
-    } else {
-        next.fields[at] = v;
-    }
-    next.count = at + 1;
-    next
-}
-
-fn with_digit(p: Progress, digit: u8) -> Progress {
-    let mut next = p;
-    if p.value <= 1844674407370955161 {
-        next.value = std::num::wrapping_add_u64(p.value * 10, digit as u64);
-    }
-    next.started = true;
-    next
-}
-
-fn float_of(bits: u64) -> f64 {
-    let exponent = bits % 9223372036854775808 / 4503599627370496;
-    let fraction = bits % 4503599627370496;
-    if exponent == 2047 {
-        if fraction == 0 {
-            return f64::from_bits(bits);
-        }
-        return 0.0 / 0.0;
-    }
-    f64::from_bits(bits)
-}
-
-fn signed_of(field: u64) -> i32 {
-    if field <= 2147483647 {
-        return field as i32;
-    }
-    let size = std::num::wrapping_sub_u64(0, field);
-    if size <= 2147483647 {
-        return 0 - (size as i32);
-    }
-    -2147483648
-}
-
-fn shape_fields(kind: u8) -> usize
-    ensures { result ≤ 4 }
-{
-    if kind == b'R' {
-        return 1;
-    }
-    if kind == b'O' {
-        return 4;
-    }
-    3
-}
-
-fn shape_of(kind: u8, a: u64, b: u64, c: u64, d: u64) -> Shape {
-    if kind == b'R' {
-        return Shape::Round(float_of(a));
-    }
-    if kind == b'O' {
-        let direction = Direction {
-            cosine: float_of(c),
-            sine: float_of(d),
-        };
-        return Shape::Oval(float_of(a), float_of(b), direction);
-    }
-    Shape::Matrix(signed_of(a), signed_of(b), signed_of(c))
-}
-
-fn same_covariance(answer: Covariance, xx: i32, xy: i32, yy: i32) -> bool {
-    match answer {
-        Covariance::Entries(x, z, y) => x == xx && z == xy && y == yy,
-        Covariance::Refused(_) => xx == 0 && xy == 0 && yy == 0,
-    }
-}
-
-fn same_kernel(kernel: Kernel, fields: [u64; 20], from: usize) -> bool
-    requires { from < 11 }
-{
-    let weights = kernel.weights;
-    for i in 0..9 {
-        if weights[i] != fields[from + i] {
-            return false;
+impl Tally {
+    fn new() -> Self {
+        Tally {
+            line: Line {
+                kind: Kind::Matrix,
+                fields: [0; 20],
+                count: 0,
+                number: Number::default(),
+            },
+            lines: 0,
+            wrong: 0,
+            answers: [0; 14],
         }
     }
-    kernel.sum == fields[from + 9]
-}
 
-fn agrees(p: Progress) -> bool {
-    let kind = p.kind;
-    let fields = p.fields;
-    let at = shape_fields(kind);
-    if p.count != at + 15 {
-        return false;
+    // The line is at its end: it is compared, and a new one begins.
+    fn end_line(&mut self) {
+        self.line.end_field();
+        if let Some(count) = self.answers.get_mut(self.line.answer() as usize) {
+            *count = count.wrapping_add(1);
+        }
+        self.lines = self.lines.wrapping_add(1);
+        if !self.line.agrees() {
+            self.wrong = self.wrong.wrapping_add(1);
+        }
+        self.line.kind = Kind::Matrix;
+        self.line.count = 0;
     }
-    let shape = shape_of(kind, fields[0], fields[1], fields[2], fields[3]);
-    let steps = (fields[at] % 4294967296) as u32;
-    let entries = covariance::covariance_of(shape);
-    if !same_covariance(
-        entries,
-        signed_of(fields[at + 2]),
-        signed_of(fields[at + 3]),
-        signed_of(fields[at + 4]),
-    ) {
-        return false;
-    }
-    let answer = covariance::kernel_of_shape(shape, steps);
-    let outcome = answer.outcome;
-    let number = limits::outcome_number(outcome);
-    if number as u64 != fields[at + 1] {
-        return false;
-    }
-    let weights = answer.kernel;
-    same_kernel(weights, fields, at + 5)
-}
 
-// The line is at its end: it is compared, and a new one begins.
-fn with_line(p: Progress) -> Progress {
-    let mut next = with_field(p);
-    let at = shape_fields(next.kind) + 1;
-    let answer = next.fields[at];
-    if answer < 14 {
-        let found = answer as usize;
-        next.answers[found] = std::num::wrapping_add_u64(next.answers[found], 1);
-    }
-    next.lines = std::num::wrapping_add_u64(next.lines, 1);
-    if !agrees(next) {
-        next.wrong = std::num::wrapping_add_u64(next.wrong, 1);
-    }
-    next.kind = 0;
-    next.count = 0;
-    next
-}
-
-fn with_byte(p: Progress, byte: u8) -> Progress {
-    if byte == b'\n' {
-        return with_line(p);
-    }
-    if byte == b' ' {
-        return with_field(p);
-    }
-    let mut next = p;
-    if byte == b'-' {
-        next.negative = true;
-        return next;
-    }
-    if b'0' <= byte && byte <= b'9' {
-        return with_digit(p, byte - b'0');
-    }
-    next.kind = byte;
-    next
-}
-
-fn with_bytes(p: Progress, bytes: &[u8]) -> Progress {
-    let mut next = p;
-    let mut i = 0;
-    while i < bytes.len() {
-        next = with_byte(next, bytes[i]);
-        i += 1;
-    }
-    next
-}
-
-// Reads until the space is full, the input ends or a read fails, and answers how many bytes it put at the start of the space.
-fn read_full(input: &mut impl Read, space: &mut [u8]) -> usize
-    ensures { result ≤ length space.new }
-{
-    let mut done = 0;
-    while done < space.len() {
-        match input.read(&mut space[done..]) {
-            Ok(0) => return done,
-            Ok(more) => done += more,
-            Err(_) => return done,
+    fn push(&mut self, byte: u8) {
+        match byte {
+            b'\n' => self.end_line(),
+            b' ' => self.line.end_field(),
+            b'-' => self.line.number.negative = true,
+            b'0'..=b'9' => self.line.number.push(byte - b'0'),
+            letter => self.line.kind = Kind::from(letter),
         }
     }
-    done
-}
 
-// One read of the input.
-fn with_input(p: Progress, input: &mut impl Read) -> Progress {
-    let mut space = [0u8; 65536];
-    let n = read_full(input, &mut space);
-    let mut next = with_bytes(p, &space[..n]);
-    if n == 0 {
-        next.ended = true;
-    }
-    next
-}
-
-fn print_row(rt: &impl Print, name: &str, n: u64) -> io::Result<()> {
-    println!(rt; "{name}\t{n}")
-}
-
-fn print_answer(rt: &impl Print, answer: u64, n: u64) -> io::Result<()> {
-    if n != 0 {
-        print!(rt; "answer {answer}")?;
-        print_row(rt, "", n)?;
-    }
-    Ok(())
-}
-
-fn print_answers(rt: &impl Print, answers: [u64; 14]) -> io::Result<()> {
-    for i in 0..14 {
-        print_answer(rt, i as u64, answers[i])?;
-    }
-    Ok(())
-}
-
-// The whole input, of at most 1024 reads.
-fn read_all(input: &mut impl Read) -> Progress {
-    let mut progress = start();
-    let mut turns: u64 = 1024;
-    while 0 < turns {
-        progress = with_input(progress, input);
-        if progress.ended {
-            return progress;
+    // The input to its end, to a read that fails, or to its first 64 MiB.
+    fn of(input: impl Read + Drop) -> Self {
+        let mut tally = Tally::new();
+        let mut input = input.take(0x400_0000);
+        let mut space = [0u8; 0x1_0000];
+        for _ in 0..u64::MAX {
+            match input.read(&mut space) {
+                Ok(0) | Err(_) => break,
+                Ok(size) => {
+                    for byte in &space[..size] {
+                        tally.push(*byte);
+                    }
+                }
+            }
         }
-        turns -= 1;
+        tally
     }
-    progress
-}
 
-fn report(rt: &impl Print, progress: Progress) -> io::Result<()> {
-    print_row(rt, "shapes", progress.lines)?;
-    print_row(rt, "wrong", progress.wrong)?;
-    let answers = progress.answers;
-    print_answers(rt, answers)
+    fn report(&self, rt: &impl Print) -> io::Result<()> {
+        let Tally { lines, wrong, .. } = self;
+        println!(rt; "shapes\t{lines}")?;
+        println!(rt; "wrong\t{wrong}")?;
+        for (answer, count) in self.answers.iter().enumerate() {
+            if *count != 0 {
+                println!(rt; "answer {answer}\t{count}")?;
+            }
+        }
+        Ok(())
+    }
 }
 
 fn main(rt: HostRuntime) -> io::Result<()> {
-    let mut input = rt.stdin();
-    report(&rt, read_all(&mut input))
+    Tally::of(rt.stdin()).report(&rt)
 }

@@ -7,7 +7,6 @@ use lib.ListN.{length}
 use lib.IntN.{ℤ, pos, negsuc}
 use lib.Ieee.{Float, of_int, of_bits, add, mul, le}
 use Rattle.limits.specs.Errors.{first_refusal, outcome_number, held_after}
-use Rattle.limits.specs.declared.Outcome.{Outcome}
 use Rattle.image.specs.Image.{pixel_at, entries, rows}
 use Rattle.covariance.specs.declared.Direction.{Direction}
 use Rattle.covariance.specs.Floats.{in_range}
@@ -18,6 +17,7 @@ use Rattle.differences.specs.Directional.{directional_of}
 use Rattle.differences.specs.Distances.{units_per_step, CloseTo}
 use Rattle.differences.specs.Answers.{difference_checks, directional_checks}
 use Rattle.differences.proofs.Table.{Case, undivided, directed, units}
+use Rattle.limits.specs.Errors.{Outcome}
 
 -- the number and the result that a case tells
 abbrev pub told : {Which Entry : Type 0} → Case Which Entry → ℕ × List Entry

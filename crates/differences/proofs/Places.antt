@@ -5,7 +5,7 @@ use mathlib.Core.Logic.{◌⊎◌, inl, inr, ⊎_elim}
 use mathlib.Core.Bool.{Bool, true, false, not}
 use mathlib.Core.List.{List}
 use Prim.Native.Nat.{ℕ, suc, ◌+◌, ◌-◌, ◌*◌, ◌/◌, ◌%◌, ◌≤◌, ◌<◌}
-use native.Mathlib.Nat.{add-mul, zero-mul, zero-div, zero-mod, suc-mul, mul_comm, mul-le-mul_right, mod-lt, div-add-mod', div-mul-le_self, div-eq_of_lt-le, div-lt_iff_lt-mul}
+use native.Mathlib.Nat.{add-mul, suc-mul, mul_comm, mul-le-mul_right, mod-lt, div-add-mod', div-eq_of_lt-le, div-lt_iff_lt-mul}
 use native.Mathlib.Omega.{arith}
 use lib.Dec.{T, ltb, ltb→lt, nltb→le}
 use lib.ListN.{get_or}
@@ -14,7 +14,7 @@ use borrow.Author.Tests.{lt-ltb, le-ltb}
 use Rattle.image.specs.Image.{nearest_place, beside, pixel_at}
 use Rattle.averaging.proofs.Images.{place_before}
 use Rattle.differences.specs.declared.Place.{Place}
-use Rattle.differences.specs.Places.{after_of, place_at, around, PlaceInside}
+use Rattle.differences.specs.Places.{after_of, place_at, index_of, around, PlaceInside}
 
 -- ---- one step on
 
@@ -39,47 +39,40 @@ after_most : (a e : ℕ) → a < e → after_of a 1 e < e
 after_most a e l = ⊎_elim (λ h. omega (arith, h)) (λ h. omega (arith, h.1)) (after_either a 1 e)
 
 -- ---- columns and rows
+
+-- the index of the place at an index
+pub index_here : (w n i : ℕ) → index_of (place_at w n i) ≡ i
+index_here w n i = div-add-mod' i w
+
 module _ (w : ℕ) (some : 1 ≤ w) where
   -- column x of row y
-  row_of : (i x y : ℕ) → x < w → i ≡ y * w + x → i / w ≡ y
+  pub row_of : (i x y : ℕ) → x < w → i ≡ y * w + x → i / w ≡ y
   row_of i x y l e = div-eq_of_lt-le w (omega arith) (omega (arith, add-mul y 1 w))
 
-  column_of_lem : (i x y : ℕ) → x < w → i ≡ y * w + x → i % w ≡ x
+  pub column_of_lem : (i x y : ℕ) → x < w → i ≡ y * w + x → i % w ≡ x
   column_of_lem i x y l e = omega (arith, div-add-mod' i w, ap (λ (q : ℕ). q * w) (row_of i x y l e))
 
-  -- the first place
-  pub first : (n : ℕ) {r b : ℕ} → r ≡ after_of 0 1 w → b ≡ after_of 0 w n
-      → record { at = 0; left = 0; column = 0; right = r; above = 0; row = 0; below = b } ≡ place_at w n 0
-  first n er eb = rw (zero-mod, zero-div, zero-mul, er, eb)
-
-  module _ (n : ℕ) (p : Place) (here : p ≡ place_at w n p.at) where
-    is_column : p.column ≡ p.at % w
+  module _ (n i : ℕ) (p : Place) (here : p ≡ place_at w n i) where
+    is_column : p.column ≡ i % w
     is_column = ap (λ (q : Place). q.column) here
 
-    is_right : p.right ≡ after_of (p.at % w) 1 w
+    is_right : p.right ≡ after_of (i % w) 1 w
     is_right = ap (λ (q : Place). q.right) here
 
-    is_row : p.row ≡ p.at / w * w
+    is_row : p.row ≡ i / w * w
     is_row = ap (λ (q : Place). q.row) here
 
-    pub right_lt : p.right < w
-    right_lt = rw is_right (after_most (p.at % w) w (mod-lt p.at some))
-
-    pub row_le : p.row ≤ p.at
-    row_le = rw is_row (div-mul-le_self p.at w)
-
     -- a column is the last one exactly where none stands to the right of it
-    not_last : p.column < p.right → p.at % w + 1 < w
-    not_last l = ⊎_elim (λ h. h.0) (λ h. absurd (omega (arith, l, is_column, is_right ∙ h.1))) (after_either (p.at % w) 1 w)
+    not_last : p.column < p.right → i % w + 1 < w
+    not_last l = ⊎_elim (λ h. h.0) (λ h. absurd (omega (arith, l, is_column, is_right ∙ h.1))) (after_either (i % w) 1 w)
 
-    last : p.right ≤ p.column → w ≤ p.at % w + 1
-    last l = ⊎_elim (λ h. absurd (omega (arith, l, is_column, is_right ∙ h.1))) (λ h. h.0) (after_either (p.at % w) 1 w)
+    last : p.right ≤ p.column → w ≤ i % w + 1
+    last l = ⊎_elim (λ h. absurd (omega (arith, l, is_column, is_right ∙ h.1))) (λ h. h.0) (after_either (i % w) 1 w)
 
     -- the next place is in the same row, where the column is not the last
     pub along : {r : ℕ} → p.column < p.right → r ≡ after_of p.right 1 w
-        → record { at = p.at + 1; left = p.column; column = p.right; right = r; above = p.above; row = p.row; below = p.below } ≡ place_at w n (p.at + 1)
+        → record { left = p.column; column = p.right; right = r; above = p.above; row = p.row; below = p.below } ≡ place_at w n (i + 1)
     along l er =
-        let i = p.at in
         let more = not_last l in
         let next : i + 1 ≡ i / w * w + (i % w + 1) = omega (arith, div-add-mod' i w) in
         let x : (i + 1) % w ≡ i % w + 1 = column_of_lem (i + 1) (i % w + 1) (i / w) more next in
@@ -89,9 +82,8 @@ module _ (w : ℕ) (some : 1 ≤ w) where
 
     -- and else it is the first of the row below
     pub down : {r b : ℕ} → p.right ≤ p.column → r ≡ after_of 0 1 w → b ≡ after_of (p.row + w) w n
-        → record { at = p.at + 1; left = 0; column = 0; right = r; above = p.row; row = p.row + w; below = b } ≡ place_at w n (p.at + 1)
+        → record { left = 0; column = 0; right = r; above = p.row; row = p.row + w; below = b } ≡ place_at w n (i + 1)
     down l er eb =
-        let i = p.at in
         let step : (i / w + 1) * w ≡ i / w * w + w = omega (arith, add-mul (i / w) 1 w) in
         let next : i + 1 ≡ (i / w + 1) * w + 0 = omega (arith, div-add-mod' i w, mod-lt i some, last l) in
         let x : (i + 1) % w ≡ 0 = column_of_lem (i + 1) 0 (i / w + 1) some next in

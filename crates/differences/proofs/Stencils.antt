@@ -3,12 +3,11 @@
 use mathlib.Core.Path.{◌≡◌, sym, ap, ap₂, ◌∙◌}
 use mathlib.Core.Bool.{Bool, true, false, not}
 use mathlib.Core.List.{List, [], ◌∷◌}
-use Prim.Native.Nat.{ℕ, suc, ◌+◌, ◌-◌, ◌*◌, ◌^◌, ◌≤◌, ◌<◌, max}
-use native.Mathlib.Nat.{mul_comm, mul-le-mul_left, add-le-add, le_refl, le-suc, lt_of_le_of_lt}
+use Prim.Native.Nat.{ℕ, suc, ◌+◌, ◌-◌, ◌*◌, ◌≤◌, ◌<◌}
+use native.Mathlib.Nat.{mul_comm, mul-le-mul_left, add-le-add, le_refl}
 use native.Mathlib.Omega.{arith}
 use lib.Dec.{T, ltb, ltb→lt, nltb→le}
 use lib.IntN.{ℤ, pos, negsuc, nat_abs, ◌+ℤ◌, ◌-ℤ◌, *ℤ_comm}
-use lib.Signed.{mag}
 use mir.Syntax.{w32}
 use mir.Val.{SFits, to_z, of_z}
 use mir.ValLaws.{to_z-of_z}
@@ -29,15 +28,6 @@ size_diff a b m p q = go (ltb a b) (ltb→lt a b) (nltb→le a b)
 
 pub less_diff : (a b : ℕ) → pos a -ℤ pos b ≡ diff a b
 less_diff a b = ap₂ ◌+ℤ◌ (parts (pos a)) (neg_parts (pos b)) ∙ sum a 0 0 b ∙ equal (a + 0) (0 + b) a b (omega arith)
-
-mag_le : (z : ℤ) → mag z ≤ nat_abs z
-mag_le (pos n) = le_refl n
-mag_le (negsuc n) = le-suc n
-
--- a difference of two small numbers fits 32 bits
-pub fits_diff : (a b : ℕ) → a < 2 ^ 31 → b < 2 ^ 31 → SFits w32 (pos a -ℤ pos b)
-fits_diff a b p q =
-    record { sfits = rw (less_diff a b) (lt_of_le_of_lt (mag_le (diff a b)) (lt_of_le_of_lt (size_diff a b (max a b) (omega arith) (omega arith)) (omega arith))) }
 
 -- ---- a stencil by the sizes of its coefficients of one sign: those of `plus` are added, those of `minus` taken away
 abbrev pub part : (ℤ → ℕ) → List Term → (ℤ → ℤ → ℕ) → ℕ

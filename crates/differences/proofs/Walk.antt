@@ -1,70 +1,30 @@
 -- A loop that walks along the places of a picture and stores an entry at each, over any type of entries; and that the entries
 -- which the loops store are those of the differences. Assumes nothing.
-use mathlib.Core.Path.{◌≡◌, refl, sym, ap, ap₂, subst₂, ◌∙◌}
+use mathlib.Core.Path.{◌≡◌, refl, sym, ap₂, ◌∙◌}
 use mathlib.Core.List.{List, [], ◌∷◌}
-use Prim.Native.Nat.{ℕ, ◌+◌, ◌*◌, ◌/◌, ◌%◌, ◌≤◌, ◌<◌}
-use native.Mathlib.Nat.{le_trans, mul-le-mul_left, mul-le-mul_right, mul_comm, mod-lt, div-add-mod', div-lt_iff_lt-mul}
-use native.Mathlib.Numerals.{add-one}
+use Prim.Native.Nat.{ℕ, suc, ◌+◌, ◌*◌, ◌/◌, ◌%◌, ◌≤◌, ◌<◌}
+use native.Mathlib.Nat.{le_trans, mul-le-mul_left, mul-le-mul_right, mul_comm, suc-mul}
 use native.Mathlib.Omega.{arith}
-use lib.ListN.{length, get_or, set, take, length-set}
-use lib.Seq.{take-suc, take-suc-set, take_all}
+use lib.ListN.{length, get_or}
 use lib.IntN.{ℤ, pos, ◌+ℤ◌}
-use lib.Ieee.{nan}
+use lib.Ieee.{Float, nan}
 use Rattle.limits.specs.Limits.{longest_side}
 use Rattle.covariance.specs.declared.Direction.{Direction}
 use Rattle.image.specs.Image.{pixel_at, image_of}
-use Rattle.averaging.proofs.Images.{length_image, image_entry}
-use Rattle.differences.specs.declared.Place.{Place}
+use Rattle.averaging.proofs.Images.{image_of_entries}
 use Rattle.differences.specs.declared.Difference.{Difference}
 use Rattle.differences.specs.declared.Difference.TheVariants.{FirstX, FirstY, SecondX, SecondY, Mixed}
-use Rattle.differences.specs.Stencils.{Term, stencil_sum, stencil_at, stencil_of, differences_of}
+use Rattle.differences.specs.Stencils.{Term, stencil_sum, stencil_of, differences_of}
 use Rattle.differences.specs.Directional.{directional, directional_of}
-use Rattle.differences.specs.Places.{place_at, around, PlaceInside, PictureAndResult}
-use Rattle.differences.proofs.Places.{Step, back, none, on, inside, around_place}
-
--- ---- the loop
-
--- p is the place of its index, and the entries of o before it are those that are to be made
-pub record Progress {A : Type 0} (w n : ℕ) (made o : List A) (p : Place) : Type 0 where
-  pub within : p.at ≤ n
-  pub here : p ≡ place_at w n p.at
-  pub size : length o ≡ n
-  pub done : take p.at o ≡ take p.at made
-
-module _ {A : Type 0} {w n : ℕ} {made o : List A} {p : Place} where
-  -- at the first place nothing is done
-  pub begin : length o ≡ n → p ≡ place_at w n 0 → Progress w n made o p
-  begin l e = rw e (record { within = omega arith; here = refl; size = l; done = refl })
-
-  -- an entry is stored, and the next place is taken
-  pub turn : {v : A} {q : Place} (d : A) → length made ≡ n → Progress w n made o p → p.at < n → v ≡ get_or made p.at d
-      → q ≡ place_at w n (p.at + 1) → Progress w n made (set o p.at v) q
-  turn d m g l ev eq =
-      let a : p.at < length o = omega (arith, g.size) in
-      let b : p.at < length made = omega arith in
-      rw eq
-      (record {
-        within = omega arith;
-        here = refl;
-        size = rw length-set g.size;
-        done = rw (add-one, take-suc-set, take-suc made p.at d b, g.done, ev);
-      })
-
-  -- after the last place all is done
-  pub end : length made ≡ n → Progress w n made o p → n ≤ p.at → o ≡ made
-  end m g l = sym (take_all p.at o (omega (arith, g.size))) ∙ g.done ∙ take_all p.at made (omega arith)
+use Rattle.differences.specs.Places.{place_at, around, PlaceInside}
+use Rattle.differences.proofs.Checks.{PictureAndResult}
+use Rattle.differences.proofs.Places.{Step, back, none, on, inside, around_place, row_of, column_of_lem}
 
 -- no picture has more pixels than the largest one
 pub area : {n m w h : ℕ} → PictureAndResult n m w h → w * h ≤ longest_side * longest_side
 area {n} {m} {w} {h} f = le_trans (mul-le-mul_left w f.low) (mul-le-mul_right longest_side f.narrow)
 
 -- ---- the entries
-
--- the entry of index i
-entry_at : {A : Type 0} (w h i : ℕ) (f : ℕ → ℕ → A) (d : A) → 1 ≤ w → i < w * h → get_or (image_of w h f) i d ≡ f (i % w) (i / w)
-entry_at w h i f d some l =
-    ap (λ (k : ℕ). get_or (image_of w h f) k d) (sym (div-add-mod' i w))
-    ∙ image_entry w h f d (i % w) (i / w) (mod-lt i some) ((div-lt_iff_lt-mul some).1 (rw (mul_comm h w) l))
 
 -- only the entries at a stencil's offsets count
 abbrev Steps : List Term → Type 0
@@ -83,34 +43,37 @@ near SecondX = (on, none, (none, none, (back, none, tt)))
 near SecondY = (none, on, (none, none, (none, back, tt)))
 near Mixed = (on, on, (back, on, (on, back, (back, back, tt))))
 
--- at a place of a picture
-module _ {n m w h : ℕ} {p : Place} (f : PictureAndResult n m w h) (here : p ≡ place_at w (w * h) p.at) (l : p.at < w * h) where
-  pub inside_here : PlaceInside n p
-  inside_here = subst₂ PlaceInside (sym f.picture) (sym here) (inside w h p.at f.wide l)
+-- every place of a picture, and those around it, lie inside
+pub inside_each : {n m w h : ℕ} → PictureAndResult n m w h → (i : ℕ) → i < m → PlaceInside n (place_at w m i)
+inside_each {w = w} {h} f i l = rw (f.picture, f.result) (inside w h i f.wide (omega (arith, f.result)))
 
-  module _ (pixels : List ℕ) where
-    sum_here : (which : Difference) → stencil_sum (stencil_of which) (around pixels p) ≡ stencil_at (stencil_of which) w h pixels (p.at % w) (p.at / w)
-    sum_here which =
-        ap (λ (q : Place). stencil_sum (stencil_of which) (around pixels q)) here
-        ∙ same_sum (around pixels (place_at w (w * h) p.at)) (λ dx dy. pixel_at w h pixels (pos (p.at % w) +ℤ dx) (pos (p.at / w) +ℤ dy))
-        (λ dx dy. around_place w h p.at f.wide l pixels) (stencil_of which) (near which)
+-- a formula that reads only the pixels around a place, at every place of a picture
+module _ {A : Type 0} (formula : (ℤ → ℤ → ℕ) → A) (near_only : (f g : ℤ → ℤ → ℕ) → ((dx dy : ℤ) → Step dx → Step dy → f dx dy ≡ g dx dy) → formula f ≡ formula g) where
+  filled : {n m w h : ℕ} → PictureAndResult n m w h → (pixels : List ℕ) {o : List A} (d : A) → length o ≡ m
+      → ((i : ℕ) → i < m → get_or o i d ≡ formula (around pixels (place_at w m i)))
+      → o ≡ image_of w h (λ x y. formula (λ dx dy. pixel_at w h pixels (pos x +ℤ dx) (pos y +ℤ dy)))
+  filled {w = w} {h} f pixels {o} d size each = image_of_entries w h d o _ (size ∙ f.result) go
+    where
+      go : (x y : ℕ) → x < w → y < h → get_or o (y * w + x) d ≡ formula (λ dx dy. pixel_at w h pixels (pos x +ℤ dx) (pos y +ℤ dy))
+      go x y a b =
+          let i = y * w + x in
+          let rows : suc y * w ≤ h * w = mul-le-mul_right w b in
+          let l : i < w * h = omega (arith, rows, suc-mul y w, mul_comm h w) in
+          let e : get_or o i d ≡ formula (around pixels (place_at w (w * h) i)) = rw (sym f.result) (each i (rw f.result l)) in
+          let across : i % w ≡ x = column_of_lem w f.wide i x y a refl in
+          let down : i / w ≡ y = row_of w f.wide i x y a refl in
+          e ∙ near_only (around pixels (place_at w (w * h) i)) (λ dx dy. pixel_at w h pixels (pos x +ℤ dx) (pos y +ℤ dy))
+          (λ dx dy s t. around_place w h i f.wide l pixels s t ∙ ap₂ (λ p q. pixel_at w h pixels (pos p +ℤ dx) (pos q +ℤ dy)) across down)
 
-    pub difference_here : (which : Difference) → stencil_sum (stencil_of which) (around pixels p) ≡ get_or (differences_of which w h pixels) p.at (pos 0)
-    unfolding differences_of
-    difference_here which = sum_here which ∙ sym (entry_at w h p.at (stencil_at (stencil_of which) w h pixels) (pos 0) f.wide l)
-
-    pub directional_here : (d : Direction)
-        → directional d (stencil_sum (stencil_of FirstX) (around pixels p)) (stencil_sum (stencil_of FirstY) (around pixels p)) ≡ get_or (directional_of d w h pixels) p.at nan
-    unfolding directional_of
-    directional_here d =
-        ap₂ (directional d) (sum_here FirstX) (sum_here FirstY)
-        ∙ sym (entry_at w h p.at (λ x y. directional d (stencil_at (stencil_of FirstX) w h pixels x y) (stencil_at (stencil_of FirstY) w h pixels x y)) nan f.wide l)
-
-pub length_differences : (which : Difference) (w h : ℕ) (pixels : List ℕ) → length (differences_of which w h pixels) ≡ w * h
+pub differences_filled : {n m w h : ℕ} → PictureAndResult n m w h → (which : Difference) (pixels : List ℕ) {o : List ℤ} → length o ≡ m
+    → ((i : ℕ) → i < m → get_or o i (pos 0) ≡ stencil_sum (stencil_of which) (around pixels (place_at w m i))) → o ≡ differences_of which w h pixels
 unfolding differences_of
-length_differences which w h pixels = length_image w h (stencil_at (stencil_of which) w h pixels)
+differences_filled f which pixels = filled (stencil_sum (stencil_of which)) (λ f g same. same_sum f g same (stencil_of which) (near which)) f pixels (pos 0)
 
-pub length_directional : (d : Direction) (w h : ℕ) (pixels : List ℕ) → length (directional_of d w h pixels) ≡ w * h
+pub directional_filled : {n m w h : ℕ} → PictureAndResult n m w h → (d : Direction) (pixels : List ℕ) {o : List Float} → length o ≡ m
+    → ((i : ℕ) → i < m → get_or o i nan ≡ directional d (stencil_sum (stencil_of FirstX) (around pixels (place_at w m i))) (stencil_sum (stencil_of FirstY) (around pixels (place_at w m i))))
+    → o ≡ directional_of d w h pixels
 unfolding directional_of
-length_directional d w h pixels =
-    length_image w h (λ x y. directional d (stencil_at (stencil_of FirstX) w h pixels x y) (stencil_at (stencil_of FirstY) w h pixels x y))
+directional_filled f d pixels =
+    filled (λ f. directional d (stencil_sum (stencil_of FirstX) f) (stencil_sum (stencil_of FirstY) f))
+    (λ f g same. ap₂ (directional d) (same_sum f g same (stencil_of FirstX) (near FirstX)) (same_sum f g same (stencil_of FirstY) (near FirstY))) f pixels nan

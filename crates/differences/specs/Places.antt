@@ -1,7 +1,6 @@
 -- For the contracts of the private functions: the places of a picture in row order, as the loops walk along them. Definitions
 -- only.
-use Rattle.std.specs.Prelude.{◌≡◌, cond, List, ℕ, ◌+◌, ◌-◌, ◌*◌, ◌/◌, ◌%◌, ◌≤◌, ◌<◌, ltb, get_or, ℤ}
-use Rattle.limits.specs.Limits.{longest_side}
+use Rattle.std.specs.Prelude.{cond, List, ℕ, ◌+◌, ◌-◌, ◌*◌, ◌/◌, ◌%◌, ◌≤◌, ◌<◌, ltb, get_or, ℤ}
 use Rattle.image.specs.Image.{beside}
 use Rattle.differences.specs.declared.Place.{Place}
 
@@ -13,7 +12,6 @@ after_of at step end = cond (ltb (at + step) end) (at + step) at
 abbrev pub place_at : ℕ → ℕ → ℕ → Place
 place_at w n i =
     record {
-      at = i;
       left = i % w - 1;
       column = i % w;
       right = after_of (i % w) 1 w;
@@ -21,6 +19,10 @@ place_at w n i =
       row = i / w * w;
       below = after_of (i / w * w) w n;
     }
+
+-- and the index of a place
+abbrev pub index_of : Place → ℕ
+index_of p = p.row + p.column
 
 -- the pixel at an offset of at most one from a place
 abbrev pub around : List ℕ → Place → ℤ → ℤ → ℕ
@@ -33,12 +35,3 @@ pub record PlaceInside (n : ℕ) (p : Place) : Type 0 where
   pub above : p.above ≤ p.below
   pub row : p.row ≤ p.below
   pub corner : p.below + p.right < n
-
--- n pixels, and m entries, are pictures of width w and height h
-pub record PictureAndResult (n m w h : ℕ) : Type 0 where
-  pub wide : 1 ≤ w
-  pub narrow : w ≤ longest_side
-  pub high : 1 ≤ h
-  pub low : h ≤ longest_side
-  pub picture : n ≡ w * h
-  pub result : m ≡ w * h

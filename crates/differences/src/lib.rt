@@ -1,22 +1,23 @@
 // Differences of a lent picture, written to a lent result of as many entries: the five undivided ones in whole numbers, and the
 // directional one in floats. One walk along the places, in row order, serves them all: it keeps the columns and rows around the
-// place, so that no place is divided into column and row, and the ends of a picture cost a comparison each.
+// place, so that no place is divided into column and row, and the ends of a picture cost a comparison each. A picture comes as its
+// pixels, width and height, as the C interface has it.
 #![tactic(auto)]
 
-ghost use Rattle.std.specs.Prelude.{◌≡◌, ◌+◌, ◌*◌, ◌^◌, ◌≤◌, ◌<◌, length, get_or, pos, ◌-ℤ◌};
+ghost use Rattle.std.specs.Prelude.{◌≡◌, ℕ, ◌+◌, ◌*◌, ◌^◌, ◌≤◌, ◌<◌, length, get_or, pos, ◌-ℤ◌};
 ghost use Rattle.limits.specs.Limits.{largest_pixel, longest_side};
 ghost use Rattle.limits.specs.Errors.{first_refusal, held_after};
 ghost use Rattle.differences.specs.Stencils.{stencil_sum, stencil_of, differences_of};
 ghost use Rattle.differences.specs.Directional.{directional, directional_of};
 ghost use Rattle.differences.specs.Answers.{difference_checks, directional_checks};
-ghost use Rattle.differences.specs.Places.{after_of, place_at, around, PlaceInside, PictureAndResult};
+ghost use Rattle.differences.specs.Places.{after_of, place_at, index_of, around, PlaceInside};
 
 use covariance::Direction;
-use limits::{ErrorCode, Outcome};
+use limits::ErrorCode;
 
 // REFERENCE's undivided differences: the first ones are twice the derivative, the second ones the second derivative, and the
 // mixed one is four times the mixed derivative.
-#[derive(Clone, Copy)]
+#[derive(Clone, Copy, PartialEq, Eq)]
 pub enum Difference {
     FirstX,
     FirstY,
@@ -25,11 +26,10 @@ pub enum Difference {
     Mixed,
 }
 
-// A place of a picture: its index, its column and the columns next to it, and the indices at which its row and the rows next to
-// it start. Where the picture ends, the nearest column or row stands for the one outside.
+// A place of a picture: its column and the columns next to it, and the indices at which its row and the rows next to it start.
+// Where the picture ends, the nearest column or row stands for the one outside.
 #[derive(Clone, Copy)]
 struct Place {
-    at: usize,
     left: usize,
     column: usize,
     right: usize,
@@ -47,47 +47,45 @@ fn after(at: usize, step: usize, end: usize) -> usize
     if next < end { next } else { at }
 }
 
-fn first_place(width: usize, size: usize) -> Place
-    requires { (1 ≤ width) × (width ≤ longest_side) }
-    ensures { result ≡ place_at width size 0 }
-{
-    Place {
-        at: 0,
-        left: 0,
-        column: 0,
-        right: after(0, 1, width),
-        above: 0,
-        row: 0,
-        below: after(0, width, size),
-    }
-}
-
-fn next_place(place: Place, width: usize, size: usize) -> Place
-    requires le_width { (1 ≤ width) × (width ≤ longest_side) × (place.at < longest_side * longest_side) }
-    requires place_value { place ≡ place_at width size place.at }
-    ensures { result ≡ place_at width size (place.at + 1) }
-{
-    let at = place.at + 1;
-    if place.column < place.right {
+impl Place {
+    fn first(width: usize, size: usize) -> Self
+        requires { (1 ≤ width) × (width ≤ longest_side) }
+        ensures { result ≡ place_at width size 0 }
+    {
         Place {
-            at,
-            left: place.column,
-            column: place.right,
-            right: after(place.right, 1, width),
-            above: place.above,
-            row: place.row,
-            below: place.below,
-        }
-    } else {
-        let row = place.row + width;
-        Place {
-            at,
             left: 0,
             column: 0,
             right: after(0, 1, width),
-            above: place.row,
-            row,
-            below: after(row, width, size),
+            above: 0,
+            row: 0,
+            below: after(0, width, size),
+        }
+    }
+
+    // The place one index on.
+    fn next(self, width: usize, size: usize) -> Self
+        requires wide { (1 ≤ width) × (width ≤ longest_side) }
+        requires inside { index_of self < longest_side * longest_side }
+        requires here { self ≡ place_at width size (index_of self) }
+        ensures { result ≡ place_at width size (index_of self + 1) }
+    {
+        if self.column < self.right {
+            Place {
+                left: self.column,
+                column: self.right,
+                right: after(self.right, 1, width),
+                ..self
+            }
+        } else {
+            let row = self.row + width;
+            Place {
+                left: 0,
+                column: 0,
+                right: after(0, 1, width),
+                above: self.row,
+                row,
+                below: after(row, width, size),
+            }
         }
     }
 }
@@ -97,7 +95,7 @@ fn pixel(pixels: &[u16], row: usize, column: usize) -> u32
     requires { row + column < length pixels.now }
     ensures { (result ≡ get_or pixels.now (row + column) 0) × (result ≤ largest_pixel) }
 {
-    pixels[row + column] as u32
+    u32::from(pixels[row + column])
 }
 
 // The one place where a number gets a sign: sums of pixels stay unsigned up to here.
@@ -105,9 +103,10 @@ fn signed_difference(added: u32, taken: u32) -> i32
     requires { (added ≤ 2 * largest_pixel) × (taken ≤ 2 * largest_pixel) }
     ensures { result ≡ pos added -ℤ pos taken }
 {
-    (added as i32) - (taken as i32)
+    added as i32 - taken as i32
 }
 
+#[tactic(auto, unfolding(crate::specs::Stencils::stencil_sum))]
 fn difference_at(which: Difference, pixels: &[u16], place: Place) -> i32
     requires { PlaceInside (length pixels.now) place }
     ensures { result ≡ stencil_sum (stencil_of which) (around pixels.now place) }
@@ -145,61 +144,36 @@ fn directional_at(direction: Direction, pixels: &[u16], place: Place) -> f64
     direction.cosine * dx + direction.sine * dy
 }
 
-fn write_differences(
-    which: Difference,
-    pixels: &[u16],
-    width: usize,
-    height: usize,
-    res: &mut [i32],
-)
-    requires { PictureAndResult (length pixels.now) (length res.old) width height }
-    ensures { res.new ≡ differences_of which width height pixels.now }
+// Fills a result with the entries of the places of a picture, in row order.
+#[tactic(auto, using(crate::proofs::Places::index_here))]
+fn fill_places<T: Copy, F: Fn(Place) -> T>(width: usize, res: &mut [T], entry_at: F)
+    requires wide { (1 ≤ width) × (width ≤ longest_side) }
+    requires small { length res.old ≤ longest_side * longest_side }
+    requires callable { (at : ℕ) → at < length res.old → F.pre entry_at (place_at width (length res.old) at) }
+    ensures { (at : ℕ) → at < length res.old → (none : T) → F.post entry_at (place_at width (length res.old) at) (get_or res.new at none) }
 {
-    let size = width * height;
-    let mut place = first_place(width, size);
-    while place.at < size {
-        let at = place.at;
-        res[at] = difference_at(which, pixels, place);
-        place = next_place(place, width, size);
-    }
-}
-
-fn write_directional(
-    direction: Direction,
-    pixels: &[u16],
-    width: usize,
-    height: usize,
-    res: &mut [f64],
-)
-    requires { PictureAndResult (length pixels.now) (length res.old) width height }
-    ensures { res.new ≡ directional_of direction width height pixels.now }
-{
-    let size = width * height;
-    let mut place = first_place(width, size);
-    while place.at < size {
-        let at = place.at;
-        res[at] = directional_at(direction, pixels, place);
-        place = next_place(place, width, size);
+    let size = res.len();
+    let mut place = Place::first(width, size);
+    for entry in res.iter_mut() {
+        *entry = entry_at(place);
+        place = place.next(width, size);
     }
 }
 
 // Refusals 6 and 9, for a picture and a result of so many entries.
-fn checked(picture: usize, res: usize, width: u32, height: u32) -> Outcome
+fn checked(picture: usize, res: usize, width: u32, height: u32) -> Result<(), ErrorCode>
     ensures { result ≡ first_refusal (difference_checks picture res width height) }
 {
-    let sides = limits::sides_in_range(width, height);
-    let picture_fills = limits::fills_picture(picture, width, height);
-    let result_fills = limits::fills_picture(res, width, height);
-    if !sides {
-        return Outcome::Refused(ErrorCode::SideOutOfRange);
+    if !limits::sides_in_range(width, height) {
+        return Err(ErrorCode::SideOutOfRange);
     }
-    if !picture_fills {
-        return Outcome::Refused(ErrorCode::WrongLength);
+    if !limits::fills_picture(picture, width, height) {
+        return Err(ErrorCode::WrongLength);
     }
-    if !result_fills {
-        return Outcome::Refused(ErrorCode::WrongLength);
+    if !limits::fills_picture(res, width, height) {
+        return Err(ErrorCode::WrongLength);
     }
-    Outcome::Accepted
+    Ok(())
 }
 
 // One undivided difference at every place of a picture, or refusal 6 or 9.
@@ -209,17 +183,14 @@ pub fn undivided_difference(
     width: u32,
     height: u32,
     res: &mut [i32],
-) -> Outcome
+) -> Result<(), ErrorCode>
     ensures answer { result ≡ first_refusal (difference_checks (length pixels.now) (length res.old) width height) }
     ensures entries { res.new ≡ held_after result (differences_of which width height pixels.now) res.old }
 {
-    match checked(pixels.len(), res.len(), width, height) {
-        Outcome::Accepted => {
-            write_differences(which, pixels, width as usize, height as usize, res);
-            Outcome::Accepted
-        }
-        Outcome::Refused(code) => Outcome::Refused(code),
-    }
+    checked(pixels.len(), res.len(), width, height)?;
+    let difference = |place| difference_at(which, pixels, place);
+    fill_places(width as usize, res, difference);
+    Ok(())
 }
 
 // The directional difference at every place of a picture, or refusal 4, 6 or 9.
@@ -229,18 +200,15 @@ pub fn directional_difference(
     width: u32,
     height: u32,
     res: &mut [f64],
-) -> Outcome
+) -> Result<(), ErrorCode>
     ensures answer { result ≡ first_refusal (directional_checks direction (length pixels.now) (length res.old) width height) }
     ensures entries { res.new ≡ held_after result (directional_of direction width height pixels.now) res.old }
 {
     if !covariance::direction_in_range(direction) {
-        return Outcome::Refused(ErrorCode::NotADirection);
+        return Err(ErrorCode::NotADirection);
     }
-    match checked(pixels.len(), res.len(), width, height) {
-        Outcome::Accepted => {
-            write_directional(direction, pixels, width as usize, height as usize, res);
-            Outcome::Accepted
-        }
-        Outcome::Refused(code) => Outcome::Refused(code),
-    }
+    checked(pixels.len(), res.len(), width, height)?;
+    let directional = |place| directional_at(direction, pixels, place);
+    fill_places(width as usize, res, directional);
+    Ok(())
 }

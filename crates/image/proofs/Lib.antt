@@ -1,4 +1,3 @@
--- The laws that the proofs share, and worked readings.
-pub mod Places
+-- Worked readings.
 pub mod Table
 pub mod Cases

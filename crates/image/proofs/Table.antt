@@ -5,9 +5,8 @@ use Prim.Native.Nat.{ℕ}
 use lib.IntN.{ℤ, pos, negsuc}
 use Rattle.limits.specs.declared.ErrorCode.{ErrorCode}
 use Rattle.limits.specs.declared.ErrorCode.TheVariants.{SideOutOfRange, WrongLength}
-use Rattle.image.specs.declared.Reading as R
-use Rattle.image.specs.declared.Reading.TheVariants.{Pixel, Refused}
-use Rattle.image.specs.Reading.{reading_of, reading_number, reading_values}
+use Rattle.std.specs.Prelude.{Ok, Err}
+use Rattle.image.specs.Reading.{Reading, reading_of, reading_number, reading_values}
 
 -- w, h, the pixels, a column and a row; then the answer, REFERENCE's number of it (0 where a pixel was read) and its values
 pub record Case : Type 0 where
@@ -16,11 +15,11 @@ pub record Case : Type 0 where
   pub pixels : List ℕ
   pub column : ℤ
   pub row : ℤ
-  pub answer : R.Reading
+  pub answer : Reading
   pub number : ℕ
   pub values : List ℕ
 
-abbrev pub case : ℕ → ℕ → List ℕ → ℤ → ℤ → R.Reading → ℕ → List ℕ → Case
+abbrev pub case : ℕ → ℕ → List ℕ → ℤ → ℤ → Reading → ℕ → List ℕ → Case
 case width height pixels column row answer number values =
     record {
       width = width;
@@ -35,13 +34,13 @@ case width height pixels column row answer number values =
 
 -- three columns and two rows
 abbrev pub six : ℤ → ℤ → ℕ → Case
-six column row pixel = case 3 2 (11 ∷ 12 ∷ 13 ∷ 21 ∷ 22 ∷ 23 ∷ []) column row (Pixel pixel) 0 (pixel ∷ [])
+six column row pixel = case 3 2 (11 ∷ 12 ∷ 13 ∷ 21 ∷ 22 ∷ 23 ∷ []) column row (Ok pixel) 0 (pixel ∷ [])
 
 abbrev pub one : ℤ → ℤ → ℕ → Case
-one column row pixel = case 1 1 (65535 ∷ []) column row (Pixel pixel) 0 (pixel ∷ [])
+one column row pixel = case 1 1 (65535 ∷ []) column row (Ok pixel) 0 (pixel ∷ [])
 
 abbrev pub refused : ℕ → ℕ → List ℕ → ErrorCode → ℕ → Case
-refused width height pixels code number = case width height pixels (pos 0) (pos 0) (Refused code) number []
+refused width height pixels code number = case width height pixels (pos 0) (pos 0) (Err code) number []
 
 abbrev pub largest : ℤ
 largest = pos 2147483647
@@ -88,7 +87,7 @@ table =
     ∷ []
 
 -- the row with what the definitions give for its input
-abbrev pub reading_for : Case → R.Reading
+abbrev pub reading_for : Case → Reading
 reading_for c = reading_of c.width c.height c.pixels c.column c.row
 
 abbrev pub computed : Case → Case

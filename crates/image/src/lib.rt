@@ -8,37 +8,33 @@ ghost use Rattle.image.specs.Reading.{reading_of};
 
 use limits::ErrorCode;
 
-// What reading a pixel answers.
-#[derive(Clone, Copy)]
-pub enum Reading {
-    Pixel(u16),
-    Refused(ErrorCode),
-}
-
 // The nearest of the places of an axis to a signed place.
 fn nearest_place(count: u32, place: i32) -> usize
     requires { 1 ≤ count }
     ensures { (result ≡ nearest_place count place) × (result < count) }
 {
-    if place < 0 {
-        return 0;
-    }
-    let last = (count as usize) - 1;
-    let inside = place as usize;
-    if inside < last { inside } else { last }
+    let last = count as usize - 1;
+    usize::try_from(place).unwrap_or(0).min(last)
 }
 
 // The pixel at a column and a row, the nearest one outside, on each axis separately. Refusals 6 and 9.
-pub fn pixel_at(pixels: &[u16], width: u32, height: u32, column: i32, row: i32) -> Reading
+#[tactic(auto, unfolding(crate::specs::Reading::reading_of, crate::specs::Image::pixel_at))]
+pub fn pixel_at(
+    pixels: &[u16],
+    width: u32,
+    height: u32,
+    column: i32,
+    row: i32,
+) -> Result<u16, ErrorCode>
     ensures { result ≡ reading_of width height pixels.now column row }
 {
     if !limits::sides_in_range(width, height) {
-        return Reading::Refused(ErrorCode::SideOutOfRange);
+        return Err(ErrorCode::SideOutOfRange);
     }
     if !limits::fills_picture(pixels.len(), width, height) {
-        return Reading::Refused(ErrorCode::WrongLength);
+        return Err(ErrorCode::WrongLength);
     }
     let y = nearest_place(height, row);
     let x = nearest_place(width, column);
-    Reading::Pixel(pixels[y * (width as usize) + x])
+    Ok(pixels[y * width as usize + x])
 }

@@ -1,13 +1,11 @@
 -- Bands: what a stretch and the ends of rows leave in a line, that a band of the rows as they stand is that of the step, and that a band
 -- which waits and one that is put in its place leave the image made so far. Assumes nothing.
 use mathlib.Core.Path.{◌≡◌, refl, sym, ap, ap₂, ◌∙◌}
-use mathlib.Core.Bool.{Bool, true, false, not}
 use mathlib.Core.Logic.{◌⊎◌, inl, inr, ◌≢◌}
 use mathlib.Core.List.{List}
 use Prim.Native.Nat.{ℕ, zero, suc, ◌+◌, ◌-◌, ◌*◌, ◌≤◌, ◌<◌, min}
-use native.Mathlib.Nat.{eq-or-lt_of_le, mul-le-mul_left, mul-le-mul_right, lt_of_mul-lt-mul_left}
+use native.Mathlib.Nat.{eq-or-lt_of_le, mul-le-mul_right}
 use native.Mathlib.Omega.{arith}
-use lib.Dec.{T, ltb, ltb→lt, nltb→le}
 use lib.ListN.{length, get_or, set, take, drop, length-set}
 use lib.Seq.{paste, drop-drop, get_or-set_same, get_or-set_other, get_or-take, get_or-drop, length-take-le, ext_get_or}
 use Rattle.limits.specs.Limits.{longest_side}
@@ -19,7 +17,7 @@ use Rattle.row_core.specs.Stretches.{column_in, average_of, stretch_of}
 use Rattle.row_core.specs.declared.Starts.{Starts}
 use Rattle.row_core.proofs.Parts.{length_part, part_at, part_written, drop_written, made_more}
 use Rattle.row_core.proofs.Rows.{pixel_from, length_step, row_inside}
-use Rattle.in_place.specs.Bands.{band_pixel, stretch_from, Waiting, Room, BandInside, Place, Next, OnePicture}
+use Rattle.in_place.specs.Bands.{band_pixel, stretch_from, Waiting, Room, BandInside}
 use Rattle.in_place.specs.declared.Band.{Band}
 
 -- a function of three equal values
@@ -127,7 +125,7 @@ pub record BandAt (w h y n : ℕ) (v : Starts) : Type 0 where
 module _ (k : Kernel) (w h : ℕ) (old picture line : List ℕ) (v : Starts) (y n : ℕ) (some : 1 ≤ w) (size : length old ≡ w * h) (band : BandAt w h y n v) where
   -- from rows that are as they were
   pub band_made : (a : ℕ) → drop a picture ≡ drop a old → a ≤ v.above → a ≤ v.at → a ≤ v.below → n * w ≤ length line
-      → ((j x : ℕ) → j * w + w ≤ n * w → x < w → get_or line (j * w + x) 0 ≡ band_pixel k w picture v j x)
+      → ((j x : ℕ) → j < n → x < w → get_or line (j * w + x) 0 ≡ band_pixel k w picture v j x)
       → take (n * w) line ≡ part (y * w) (n * w) (step_of k w h old)
   band_made a kept la lt lb room pixels =
       ext_get_or 0 (take (n * w) line) (part (y * w) (n * w) (step_of k w h old)) (short ∙ sym long)
@@ -136,11 +134,11 @@ module _ (k : Kernel) (w h : ℕ) (old picture line : List ℕ) (v : Starts) (y 
       short : length (take (n * w) line) ≡ n * w
       short = length-take-le (n * w) line room
 
-      rows_inside : y * w + n * w ≤ w * h
-      rows_inside = let m : (y + n) * w ≤ h * w = mul-le-mul_right w band.inside in omega (arith, m)
+      all_inside : y * w + n * w ≤ w * h
+      all_inside = let m : (y + n) * w ≤ h * w = mul-le-mul_right w band.inside in omega (arith, m)
 
       long : length (part (y * w) (n * w) (step_of k w h old)) ≡ n * w
-      long = length_part (y * w) (n * w) (step_of k w h old) (omega (arith, rows_inside, length_step k w h old))
+      long = length_part (y * w) (n * w) (step_of k w h old) (omega (arith, all_inside, length_step k w h old))
 
       column : (c : ℕ) → column_in picture v c ≡ column_in old v c
       column c =
@@ -152,52 +150,33 @@ module _ (k : Kernel) (w h : ℕ) (old picture line : List ℕ) (v : Starts) (y 
           let i : ℕ = j * w + x in
           let place : (y + j) * w + x ≡ y * w + i = omega arith in
           get_or-take (n * w) line i 0 (omega (arith, row, lx))
-          ∙ pixels j x row lx
+          ∙ pixels j x lj lx
           ∙ ap₃ (average_of k) (column (j * w + min (x - 1) (w - 1))) (column (j * w + x)) (column (j * w + min (x + 1) (w - 1)))
           ∙ (pixel_from k w h old v (j * w) x (y + j) (min (x - 1) (w - 1)) (min (x + 1) (w - 1)) lx (omega (arith, lj, band.inside)) (band.above j lj) (band.at j lj) (band.below j lj) refl refl)
           ∙ ap (λ (i : ℕ). get_or (step_of k w h old) i 0) place
           ∙ sym (part_at (y * w) (n * w) (step_of k w h old) i (omega (arith, row, lx)))
 
-  -- the same of a band of s pixels at i
-  pub band_waits : (i s a : ℕ) → i ≡ y * w → s ≡ n * w → drop a picture ≡ drop a old → a ≤ v.above → a ≤ v.at → a ≤ v.below → s ≤ length line
-      → ((j x : ℕ) → j * w + w ≤ s → x < w → get_or line (j * w + x) 0 ≡ band_pixel k w picture v j x) → take s line ≡ part i s (step_of k w h old)
-  band_waits i s a begins whole kept la lt lb room pixels =
-      rw (begins, whole) (band_made a kept la lt lb (omega (arith, whole, room)) (λ j x row lx. pixels j x (omega (arith, whole, row)) lx))
-
 -- ---- a band that waited is put in its place, and another one waits
-pub put_down : (k : Kernel) (w h : ℕ) (old picture waiting fresh : List ℕ) (i s r : ℕ) {o : List ℕ} → i + s ≤ length picture → s ≤ length waiting
-    → Waiting k w h old picture waiting i s → take r fresh ≡ part (i + s) r (step_of k w h old) → o ≡ paste picture i waiting s
-    → Waiting k w h old o fresh (i + s) r
-put_down k w h old picture waiting fresh i s r inside long w₀ next e =
+pub put_down : (k : Kernel) (w h : ℕ) (old picture waiting fresh : List ℕ) (y n r : ℕ) {o : List ℕ} → y * w + n * w ≤ length picture → n * w ≤ length waiting
+    → Waiting k w h old picture waiting y n → take (r * w) fresh ≡ part ((y + n) * w) (r * w) (step_of k w h old) → o ≡ paste picture (y * w) waiting (n * w)
+    → Waiting k w h old o fresh (y + n) r
+put_down k w h old picture waiting fresh y n r {o} inside long w₀ next e =
+    let i : ℕ = y * w in
+    let s : ℕ = n * w in
+    let end : i + s ≡ (y + n) * w = omega arith in
     record {
-      made = made_more i s (step_of k w h old) picture waiting (omega (arith, inside)) long w₀.made w₀.waits e;
-      kept = rw e (drop_written picture i s waiting inside long) ∙ sym (drop-drop s i picture) ∙ ap (drop s) w₀.kept ∙ drop-drop s i old;
+      made = rw (← end) (made_more i s (step_of k w h old) picture waiting (omega (arith, inside)) long w₀.made w₀.waits e);
+      kept = rw (← end) (rw e (drop_written picture i s waiting inside long) ∙ sym (drop-drop s i picture) ∙ ap (drop s) w₀.kept ∙ drop-drop s i old);
       waits = next;
     }
 
 -- ---- which rows a band has
 
--- the lesser of two numbers of rows
-min_rows : (w a b : ℕ) → min (a * w) (b * w) ≡ min a b * w
-min_rows w a b = go (ltb a b) (ltb→lt a b) (nltb→le a b)
-  where
-    go : (t : Bool) → (T t → a < b) → (T (not t) → b ≤ a) → min (a * w) (b * w) ≡ min a b * w
-    go true below above =
-        let l = below tt in
-        let least : min a b ≡ a = omega (arith, l) in
-        rw least (omega (arith, mul-le-mul_right w l))
-    go false below above =
-        let l = above tt in
-        let least : min a b ≡ b = omega (arith, l) in
-        rw least (omega (arith, mul-le-mul_right w l))
-
--- the band of s pixels that begins at row y
-pub record Made (w h y : ℕ) (v : Starts) (s : ℕ) : Type 0 where
-  pub rows : ℕ
-  pub some : 1 ≤ rows
-  pub whole : s ≡ rows * w
-  pub band : BandAt w h y rows v
-  pub short : s ≤ longest_side
+-- the band from row y on
+pub record Made (w h y : ℕ) (b : Band) : Type 0 where
+  pub some : 1 ≤ b.rows
+  pub band : BandAt w h y b.rows b.starts
+  pub short : b.rows * w ≤ longest_side
 
 -- the rows above those of a band below row 0
 above_rows : (w h y j a : ℕ) → 1 ≤ y → y + j < h → a + w ≡ y * w → a + j * w ≡ min (y + j - 1) (h - 1) * w
@@ -208,67 +187,42 @@ above_rows w h y j a some inside e =
     rw least (omega (arith, e, split))
 
 -- a band as `next_band` makes it: the last row by itself, or as many rows above that one as there is room for
-pub next_made : (w h y r : ℕ) (v : Starts) (s : ℕ) → Room w r → 1 ≤ w → w ≤ longest_side → 1 ≤ y → y < h → v.above + w ≡ y * w → v.at ≡ y * w
-    → (y * w + w ≡ w * h → (v.below ≡ y * w) × (s ≡ w)) → (y * w + w < w * h → (v.below ≡ y * w + w) × (s ≡ min r (w * h - w - y * w)))
-    → Made w h y v s
-next_made w h y r v s room wide narrow some low above at last inner = go (eq-or-lt_of_le low)
+pub next_made : (w h y r : ℕ) (b : Band) → Room w r → w ≤ longest_side → 1 ≤ y → y < h → (b.starts.above + w ≡ y * w) × (b.starts.at ≡ y * w)
+    → (y + 1 ≡ h → (b.starts.below ≡ y * w) × (b.rows ≡ 1)) → (y + 1 < h → (b.starts.below ≡ y * w + w) × (b.rows ≡ min r (h - 1 - y)))
+    → Made w h y b
+next_made w h y r b room narrow some low (above, at) last inner = go (eq-or-lt_of_le low)
   where
-    go : (suc y ≡ h) ⊎ (suc y < h) → Made w h y v s
+    go : (suc y ≡ h) ⊎ (suc y < h) → Made w h y b
     go (inl e) =
-        let end : y * w + w ≡ w * h = omega (arith, ap (λ (n : ℕ). w * n) e) in
-        let (below, size) = last end in
+        let (below, one) = last (omega (arith, e)) in
         record {
-          rows = 1;
-          some = omega arith;
-          whole = omega (arith, size);
+          some = omega (arith, one);
           band =
               record {
-                inside = omega (arith, low);
-                above = λ j l. above_rows w h y j v.above some (omega (arith, low, l)) above;
+                inside = omega (arith, low, one);
+                above = λ j l. above_rows w h y j b.starts.above some (omega (arith, low, l, one)) above;
                 at = λ j l. omega (arith, at);
                 below = λ j l.
-                    let none : j ≡ 0 = omega (arith, l) in
+                    let none : j ≡ 0 = omega (arith, l, one) in
                     let least : min (y + j + 1) (h - 1) ≡ y = omega (arith, e, none) in
                     rw (least, none) (omega (arith, below));
               };
-          short = omega (arith, size, narrow);
+          short = rw one (omega (arith, narrow));
         }
     go (inr m) =
-        let n : ℕ = min room.rows (h - 1 - y) in
-        let height : h ≡ h - 1 - y + y + 1 = omega (arith, m) in
-        let split : w * h ≡ w * (h - 1 - y + y + 1) = ap (λ (n : ℕ). w * n) height in
-        let some_left : w * 1 ≤ w * (h - 1 - y) = mul-le-mul_left w (omega (arith, m)) in
-        let more : y * w + w < w * h = omega (arith, split, some_left, wide) in
-        let (below, size) = inner more in
-        let left : w * h - w - y * w ≡ (h - 1 - y) * w = omega (arith, split) in
-        let whole : s ≡ n * w = size ∙ rw (room.whole, left) (min_rows w room.rows (h - 1 - y)) in
+        let (below, size) = inner (omega (arith, m)) in
+        let rows : b.rows * w ≤ r * w = mul-le-mul_right w (omega (arith, size)) in
         record {
-          rows = n;
-          some = omega (arith, room.some, m);
-          whole = whole;
+          some = omega (arith, room.some, m, size);
           band =
               record {
-                inside = omega (arith, m);
-                above = λ j l. above_rows w h y j v.above some (omega (arith, m, l)) above;
+                inside = omega (arith, m, size);
+                above = λ j l. above_rows w h y j b.starts.above some (omega (arith, m, l, size)) above;
                 at = λ j l. omega (arith, at);
-                below = λ j l. let least : min (y + j + 1) (h - 1) ≡ y + j + 1 = omega (arith, m, l) in rw least (omega (arith, below));
+                below = λ j l. let least : min (y + j + 1) (h - 1) ≡ y + j + 1 = omega (arith, m, l, size) in rw least (omega (arith, below));
               };
-          short = omega (arith, size, room.line);
+          short = omega (arith, rows, room.line);
         }
-
--- and so what `next_band` answers
-pub band_below : (n w h r i : ℕ) (next : Next w h i) (b : Band) → OnePicture n w h → Room w r → i < n → (b.above + w ≡ i) × (b.at ≡ i)
-    → (i + w ≡ n → (b.below ≡ i) × (b.size ≡ w)) → (i + w < n → (b.below ≡ i + w) × (b.size ≡ min r (n - w - i)))
-    → Made w h next.row (record { above = b.above; at = b.at; below = b.below }) b.size
-band_below n w h r i next b p room l (above, at) last inner =
-    let begins = next.begins in
-    let low : next.row < h = lt_of_mul-lt-mul_left w (omega (arith, l, begins, p.pixels)) in
-    next_made w h next.row r (record { above = b.above; at = b.at; below = b.below }) b.size room p.wide p.narrow next.some low (above ∙ begins) (at ∙ begins)
-    (λ e. let q = last (omega (arith, e, begins, p.pixels)) in (q.0 ∙ begins, q.1))
-    (λ m.
-    let q = inner (omega (arith, m, begins, p.pixels)) in
-    let left : n - w - i ≡ w * h - w - next.row * w = omega (arith, begins, p.pixels) in
-    (omega (arith, q.0, begins), q.1 ∙ ap (λ (t : ℕ). min r t) left))
 
 -- the first row
 pub first_made : (w h below : ℕ) → 1 ≤ h → below ≡ min 1 (h - 1) * w → BandAt w h 0 1 (record { above = 0; at = 0; below = below })
@@ -283,9 +237,9 @@ first_made w h below high e =
           rw (least, none) (omega (arith, e));
     }
 
--- a band of s pixels lies inside the image of p pixels that it is of
-pub made_inside : (p w h y : ℕ) (v : Starts) (n m s : ℕ) → p ≡ w * h → s ≡ n * w → 1 ≤ w → BandAt w h y n v → 1 ≤ n → s ≤ m → BandInside p v m s w
-made_inside p w h y v n m s pixels whole wide band some room =
+-- a band of n rows lies inside the image of p pixels that it is of
+pub made_inside : (p w h y : ℕ) (v : Starts) (n m : ℕ) → p ≡ w * h → 1 ≤ w → BandAt w h y n v → 1 ≤ n → n * w ≤ m → BandInside p v m n w
+made_inside p w h y v n m pixels wide band some room =
     let last : n - 1 < n = omega (arith, some) in
     let count : n ≡ n - 1 + 1 = omega (arith, some) in
     let split : n * w ≡ (n - 1 + 1) * w = ap (λ (j : ℕ). j * w) count in
@@ -294,45 +248,20 @@ made_inside p w h y v n m s pixels whole wide band some room =
     let down = band.below (n - 1) last in
     record {
       some = wide;
-      rows = n;
-      whole = whole;
       image =
           record {
-            above = omega (arith, pixels, whole, split, up, row_inside w h (min (y + (n - 1) - 1) (h - 1)) (omega (arith, band.inside, some)));
-            at = omega (arith, pixels, whole, split, here, row_inside w h (y + (n - 1)) (omega (arith, band.inside, some)));
-            below = omega (arith, pixels, whole, split, down, row_inside w h (min (y + (n - 1) + 1) (h - 1)) (omega (arith, band.inside, some)));
+            above = omega (arith, pixels, split, up, row_inside w h (min (y + (n - 1) - 1) (h - 1)) (omega (arith, band.inside, some)));
+            at = omega (arith, pixels, split, here, row_inside w h (y + (n - 1)) (omega (arith, band.inside, some)));
+            below = omega (arith, pixels, split, down, row_inside w h (min (y + (n - 1) + 1) (h - 1)) (omega (arith, band.inside, some)));
           };
       line = room;
     }
 
 -- ---- places of bands
 
--- one lies inside the image
-pub place_inside : (w h i s : ℕ) → Place w h i s → i + s ≤ w * h
-place_inside w h i s place =
-    let m : (place.row + place.rows) * w ≤ h * w = mul-le-mul_right w place.inside in
-    omega (arith, m, place.begins, place.whole)
-
--- and has rows where it does not stand at the end
-pub place_some : (w h i s : ℕ) → Place w h i s → i < w * h → w ≤ s
-place_some w h i s place l =
-    let low : place.row < h = lt_of_mul-lt-mul_left w (omega (arith, l, place.begins)) in
-    let m : 1 * w ≤ place.rows * w = mul-le-mul_right w (place.more low) in
-    omega (arith, m, place.whole)
-
--- where one ends a row begins, or the image ends there
-pub place_next : (w h i s : ℕ) → 1 ≤ h → Place w h i s → Next w h (i + s)
-place_next w h i s high place = go (eq-or-lt_of_le inside)
-  where
-    inside : place.row ≤ h
-    inside = omega (arith, place.inside)
-
-    next : 1 ≤ place.row + place.rows → Next w h (i + s)
-    next some = record { row = place.row + place.rows; begins = omega (arith, place.begins, place.whole); inside = place.inside; some = some }
-
-    go : (place.row ≡ h) ⊎ (place.row < h) → Next w h (i + s)
-    go (inl e) = next (omega (arith, e, high))
-    go (inr l) = next (omega (arith, place.more l))
+-- n rows from row y on lie inside the image
+pub rows_inside : (w h y n : ℕ) → y + n ≤ h → y * w + n * w ≤ w * h
+rows_inside w h y n inside = let m : (y + n) * w ≤ h * w = mul-le-mul_right w inside in omega (arith, m)
 
 -- lists that agree from i on agree further on
 pub same_further : (i j : ℕ) (p q : List ℕ) → drop i p ≡ drop i q → i ≤ j → drop j p ≡ drop j q

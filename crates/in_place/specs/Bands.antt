@@ -30,39 +30,24 @@ pub record RowInside (n : ℕ) (v : Starts) (m i w : ℕ) : Type 0 where
   pub image : Inside n v (i + w)
   pub line : i + w ≤ m
 
--- so does a band of whole rows, s pixels in all
-pub record BandInside (n : ℕ) (v : Starts) (m s w : ℕ) : Type 0 where
+-- so does a band of rows
+pub record BandInside (n : ℕ) (v : Starts) (m rows w : ℕ) : Type 0 where
   pub some : 1 ≤ w
-  pub rows : ℕ
-  pub whole : s ≡ rows * w
-  pub image : Inside n v s
-  pub line : s ≤ m
+  pub image : Inside n v (rows * w)
+  pub line : rows * w ≤ m
 
--- the band of s pixels at i of an image of width w and height h: whole rows, at least one unless it stands at the end
-pub record Place (w h i s : ℕ) : Type 0 where
-  pub row : ℕ
-  pub rows : ℕ
-  pub begins : i ≡ row * w
-  pub whole : s ≡ rows * w
-  pub inside : row + rows ≤ h
-  pub more : row < h → 1 ≤ rows
+-- the band of n rows from row y on of an image of height h: at least one unless it stands at the end
+pub record Place (h y n : ℕ) : Type 0 where
+  pub inside : y + n ≤ h
+  pub more : y < h → 1 ≤ n
 
--- a row begins at i, below another one, or the image ends there
-pub record Next (w h i : ℕ) : Type 0 where
-  pub row : ℕ
-  pub begins : i ≡ row * w
-  pub inside : row ≤ h
-  pub some : 1 ≤ row
+-- the rows before row y are made, those from there on are as they were, and n made ones wait in a line
+pub record Waiting (k : Kernel) (w h : ℕ) (old picture line : List ℕ) (y n : ℕ) : Type 0 where
+  pub made : take (y * w) picture ≡ take (y * w) (step_of k w h old)
+  pub kept : drop (y * w) picture ≡ drop (y * w) old
+  pub waits : take (n * w) line ≡ part (y * w) (n * w) (step_of k w h old)
 
--- the pixels before i are made, those from i on are as they were, and s made ones wait in a line
-pub record Waiting (k : Kernel) (w h : ℕ) (old picture line : List ℕ) (i s : ℕ) : Type 0 where
-  pub made : take i picture ≡ take i (step_of k w h old)
-  pub kept : drop i picture ≡ drop i old
-  pub waits : take s line ≡ part i s (step_of k w h old)
-
--- room for whole rows in a line
-pub record Room (w r : ℕ) : Type 0 where
-  pub rows : ℕ
-  pub whole : r ≡ rows * w
-  pub some : 1 ≤ rows
-  pub line : r ≤ longest_side
+-- room for n rows in a line
+pub record Room (w n : ℕ) : Type 0 where
+  pub some : 1 ≤ n
+  pub line : n * w ≤ longest_side

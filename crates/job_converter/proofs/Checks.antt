@@ -8,9 +8,9 @@ use native.Mathlib.Nat.{le_trans}
 use native.Mathlib.Omega.{arith}
 use borrow.Author.Tests.{eqb-true}
 use lib.ListN.{length}
+use Rattle.std.specs.Prelude.{Some, None, Ok, Err}
 use Rattle.limits.specs.Errors.{first_refusal}
 use Rattle.limits.specs.declared.ErrorCode.TheVariants.{TextIsNoJob, CannotGoBack}
-use Rattle.limits.specs.declared.Outcome.TheVariants.{Accepted, Refused}
 use Rattle.limits.proofs.Checks.{all_hold}
 use Rattle.kernel.specs.declared.Choice.{Choice}
 use Rattle.kernel.specs.declared.Choice.TheVariants.{Binomial, Smallest}
@@ -19,7 +19,6 @@ use Rattle.job_parser.specs.Formats.{longest_of}
 use Rattle.job_parser.specs.Found.{job_of}
 use Rattle.job_parser.specs.Parsing.{parse}
 use Rattle.job_parser.specs.declared.Header.{Header}
-use Rattle.job_parser.specs.declared.JobText.TheVariants as job-text
 use Rattle.job_parser.specs.declared.Format.{Format}
 use Rattle.job_parser.specs.declared.Format.TheVariants.{J, N}
 use Rattle.job_parser.proofs.Parsing.{text_parsed}
@@ -43,7 +42,7 @@ convertible format text h = go (parse format text) refl h
     go (some job) e s = record { job = job; is = text_parsed format text job e; smallest = smallest_is job.header.choice s }
     go none e s = let z : ◌≡◌ {A = ℕ} 0 1 = cc in absurd (omega arith)
 
-module _ (from to : Format) (text : List ℕ) (size : ℕ) (accepted : first_refusal (conversion_checks from to text size) ≡ Accepted) where
+module _ (from to : Format) (text : List ℕ) (size : ℕ) (accepted : first_refusal (conversion_checks from to text size) ≡ Ok tt) where
   pub taken : Convertible from text
   taken = convertible from text (all_hold (conversion_checks from to text size) accepted).1.0
 
@@ -52,28 +51,28 @@ module _ (from to : Format) (text : List ℕ) (size : ℕ) (accepted : first_ref
 
 -- what the reader of jobs answered tells how the checks go on
 module _ (from to : Format) (text : List ℕ) (size : ℕ) where
-  pub no_job_lem : job_of (parse from text) ≡ job-text.NoJob → first_refusal (conversion_checks from to text size) ≡ Refused TextIsNoJob
+  pub no_job_lem : job_of (parse from text) ≡ None → first_refusal (conversion_checks from to text size) ≡ Err TextIsNoJob
   unfolding job_of
   no_job_lem h = go (parse from text) refl
     where
-      go : (o : Option Job) → parse from text ≡ o → first_refusal (conversion_checks from to text size) ≡ Refused TextIsNoJob
-      go (some job) e = let found : job-text.Job job.header ≡ job-text.NoJob = rw e at h in let z : ◌≡◌ {A = ℕ} 0 1 = cc in absurd (omega arith)
+      go : (o : Option Job) → parse from text ≡ o → first_refusal (conversion_checks from to text size) ≡ Err TextIsNoJob
+      go (some job) e = let found : Some job.header ≡ None = rw e at h in let z : ◌≡◌ {A = ℕ} 0 1 = cc in absurd (omega arith)
       go none e = rw e
 
-  module _ (header : Header) (is_job_lem : job_of (parse from text) ≡ job-text.Job header) where
+  module _ (header : Header) (is_job_lem : job_of (parse from text) ≡ Some header) where
     -- the job that was read
     read : (job : Job) × ((parse from text ≡ some job) × (job.header ≡ header))
     unfolding job_of
     read = go (parse from text) refl
       where
         go : (o : Option Job) → parse from text ≡ o → (job : Job) × ((parse from text ≡ some job) × (job.header ≡ header))
-        go (some job) e = let found : job-text.Job job.header ≡ job-text.Job header = rw e at is_job_lem in (job, (e, cc))
-        go none e = let found : job-text.NoJob ≡ job-text.Job header = rw e at is_job_lem in let z : ◌≡◌ {A = ℕ} 0 1 = cc in absurd (omega arith)
+        go (some job) e = let found : Some job.header ≡ Some header = rw e at is_job_lem in (job, (e, cc))
+        go none e = let found : None ≡ Some header = rw e at is_job_lem in let z : ◌≡◌ {A = ℕ} 0 1 = cc in absurd (omega arith)
 
     pub by_length : header.choice ≡ Smallest → first_refusal (conversion_checks from to text size) ≡ first_refusal (length_checks from to (length text) size)
     by_length e = let r = read in rw r.1.0 (rw (r.1.1, e))
 
-    pub not_back : header.choice ≡ Binomial → first_refusal (conversion_checks from to text size) ≡ Refused CannotGoBack
+    pub not_back : header.choice ≡ Binomial → first_refusal (conversion_checks from to text size) ≡ Err CannotGoBack
     not_back e = let r = read in rw r.1.0 (rw (r.1.1, e))
 
     -- its text is neither very short nor very long

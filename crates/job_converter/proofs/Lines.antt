@@ -1,13 +1,15 @@
 -- Where line one of a job text ends: no byte of its fields is a newline. Assumes nothing.
 use mathlib.Core.Path.{◌≡◌, refl, ap}
-use mathlib.Core.Bool.{Bool, true, false}
+use mathlib.Core.Bool.{Bool, true, false, cond}
 use mathlib.Core.List.{List, [], ◌∷◌, ◌++◌}
-use Prim.Native.Nat.{ℕ, zero, suc, ◌/◌, ◌%◌, ◌<◌}
+use Prim.Native.Nat.{ℕ, zero, suc, ◌/◌, ◌%◌, ◌<◌, ◌≤◌}
 use native.Mathlib.Omega.{arith}
 use borrow.Author.Tests.{ne_eqb, ltb-true, ltb-false}
-use lib.Dec.{ltb}
+use lib.Dec.{ltb, eqb}
 use lib.ListN.{length}
 use lib.IntN.{ℤ, pos, negsuc}
+use Rattle.std.specs.Prelude.{Some, None, ◌==◌, unwrap_or}
+use Rattle.std.specs.List.{position, position_or_len}
 use Rattle.job_printer.specs.Numerals.{digit, numeral, integer}
 use Rattle.job_printer.specs.Fields.{newline}
 use Rattle.job_printer.proofs.Numerals.{one_digit, last_digit}
@@ -47,3 +49,29 @@ pub ends_at : (bytes rest : List ℕ) → Plain bytes → line_end (bytes ++ new
 unfolding line_end
 ends_at [] rest h = refl
 ends_at (b ∷ bytes) rest h = rw (ne_eqb b newline h.0) (ap suc (ends_at bytes rest h.1))
+
+-- where the first newline is, or the text's length where there is none
+prefix_is : (text : List ℕ) → position_or_len (λ b. b == newline) text ≡ line_end text
+unfolding line_end
+prefix_is [] = refl
+prefix_is (b ∷ text) = go (eqb b newline) refl (prefix_is text)
+  where
+    go : (t : Bool) → eqb b newline ≡ t → position_or_len (λ b. b == newline) text ≡ line_end text → position_or_len (λ b. b == newline) (b ∷ text) ≡ line_end (b ∷ text)
+    go true e r = rw e
+    go false e r = rw e (rw r (omega arith))
+
+end_most : (text : List ℕ) → line_end text ≤ length text
+unfolding line_end
+end_most [] = omega arith
+end_most (b ∷ text) = go (eqb b newline) (end_most text)
+  where
+    go : (t : Bool) → line_end text ≤ length text → cond t 0 (suc (line_end text)) ≤ suc (length text)
+    go true r = omega arith
+    go false r = omega arith
+
+pub end_found : (text : List ℕ) → unwrap_or (position (λ b. b == newline) text) (length text) ≡ line_end text
+end_found text = rw prefix_is (go (ltb (line_end text) (length text)) refl)
+  where
+    go : (t : Bool) → ltb (line_end text) (length text) ≡ t → unwrap_or (cond t (Some (line_end text)) None) (length text) ≡ line_end text
+    go true e = refl
+    go false e = let long = ltb-false (line_end text) (length text) e in let most = end_most text in omega arith

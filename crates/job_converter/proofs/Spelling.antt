@@ -24,13 +24,13 @@ abbrev from_steps : Header → List ℕ
 from_steps h = numeral h.steps ++ tab ∷ from_width h
 
 abbrev from_yy : Header → List ℕ
-from_yy h = integer h.yy ++ tab ∷ from_steps h
+from_yy h = integer h.covariance.yy ++ tab ∷ from_steps h
 
 abbrev from_xy : Header → List ℕ
-from_xy h = integer h.xy ++ tab ∷ from_yy h
+from_xy h = integer h.covariance.xy ++ tab ∷ from_yy h
 
 abbrev from_xx : Header → List ℕ
-from_xx h = integer h.xx ++ tab ∷ from_xy h
+from_xx h = integer h.covariance.xx ++ tab ∷ from_xy h
 
 abbrev body : Header → List ℕ
 body h = tab ∷ from_xx h
@@ -45,9 +45,9 @@ plain_body : (h : Header) → Plain (body h)
 plain_body h =
     let width = plain_field (numeral h.width) (numeral h.height) (plain_numeral h.width) (plain_numeral h.height) in
     let steps = plain_field (numeral h.steps) (from_width h) (plain_numeral h.steps) width in
-    let yy = plain_field (integer h.yy) (from_steps h) (plain_integer h.yy) steps in
-    let xy = plain_field (integer h.xy) (from_yy h) (plain_integer h.xy) yy in
-    (not_tab, plain_field (integer h.xx) (from_xy h) (plain_integer h.xx) xy)
+    let yy = plain_field (integer h.covariance.yy) (from_steps h) (plain_integer h.covariance.yy) steps in
+    let xy = plain_field (integer h.covariance.xy) (from_yy h) (plain_integer h.covariance.xy) yy in
+    (not_tab, plain_field (integer h.covariance.xx) (from_xy h) (plain_integer h.covariance.xx) xy)
 
 plain_choice : (format : Format) → Plain (smallest_bytes format)
 plain_choice J = tt

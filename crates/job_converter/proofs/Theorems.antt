@@ -12,7 +12,6 @@ use lib.Dec.{eqb}
 use lib.ListN.{length}
 use Rattle.limits.specs.Errors.{unless}
 use Rattle.limits.specs.declared.ErrorCode.TheVariants.{TextIsNoJob, WrongLength, CannotGoBack}
-use Rattle.limits.specs.declared.Outcome.TheVariants.{Accepted, Refused}
 use Rattle.kernel.specs.declared.Choice.TheVariants.{Binomial, Smallest}
 use Rattle.job_parser.specs.Job.{Job, text_of, InTypes, IsText}
 use Rattle.job_parser.specs.Parsing.{parse}
@@ -21,6 +20,7 @@ use Rattle.job_parser.specs.declared.Format.TheVariants.{J, N}
 use Rattle.job_parser.proofs.Parsing.{parse_text, text_parsed}
 use Rattle.job_converter.specs.Conversion.{smallest_bytes, converted, is_smallest, conversion, output_after}
 use Rattle.job_converter.proofs.Spelling.{converted_text, text_long, same_room, can_have}
+use Rattle.std.specs.Prelude.{Ok, Err}
 
 module _ (from to : Format) (text : List ℕ) (job : Job) (is : IsText from text job) (smallest : job.header.choice ≡ Smallest) where
   made : converted from to text ≡ text_of to job
@@ -45,7 +45,7 @@ module _ (from to : Format) (text : List ℕ) (job : Job) (is : IsText from text
 
   -- IT IS TAKEN WHATEVER ITS STEPS, SIDES AND SHAPE ARE, where the output has the right length
   module _ (out : List ℕ) (fits : length out + length (smallest_bytes from) ≡ length text + length (smallest_bytes to)) where
-    pub accepted : conversion from to text out ≡ Accepted
+    pub accepted : conversion from to text out ≡ Ok tt
     accepted = rw (parse_text from text job is) (rw (smallest, eq-eqb _ _ fits))
 
     pub left : output_after from to text out ≡ converted from to text
@@ -53,8 +53,8 @@ module _ (from to : Format) (text : List ℕ) (job : Job) (is : IsText from text
 
 -- a text that goes to the other format and comes back, whatever the outputs held before
 pub record ComesBack (from to : Format) (text out other : List ℕ) : Type 0 where
-  pub forth : conversion from to text out ≡ Accepted
-  pub back : conversion to from (output_after from to text out) other ≡ Accepted
+  pub forth : conversion from to text out ≡ Ok tt
+  pub back : conversion to from (output_after from to text out) other ≡ Ok tt
   pub same : output_after to from (output_after from to text out) other ≡ text
 
 -- EVERY TEXT WITH THE SMALLEST CHOICE COMES BACK TO THE SAME BYTES
@@ -82,25 +82,25 @@ named_comes_back text job is smallest out back fits = comes_back N J text job is
 -- ---- refusals
 module _ (from to : Format) (text out : List ℕ) where
   -- 1 EXACTLY WHERE THE TEXT IS NO JOB'S OF THE FORMAT
-  pub one_exactly : (conversion from to text out ≡ Refused TextIsNoJob) ↔ ((job : Job) → IsText from text job → ⊥)
+  pub one_exactly : (conversion from to text out ≡ Err TextIsNoJob) ↔ ((job : Job) → IsText from text job → ⊥)
   one_exactly = (only, λ none_is. always none_is (parse from text) refl)
     where
-      other : (smallest fits : Bool) → unless smallest (Refused CannotGoBack) (unless fits (Refused WrongLength) Accepted) ≡ Refused TextIsNoJob → ⊥
+      other : (smallest fits : Bool) → unless smallest (Err CannotGoBack) (unless fits (Err WrongLength) (Ok tt)) ≡ Err TextIsNoJob → ⊥
       other false fits e = let z : ◌≡◌ {A = ℕ} 0 1 = cc in omega arith
       other true false e = let z : ◌≡◌ {A = ℕ} 0 1 = cc in omega arith
       other true true e = let z : ◌≡◌ {A = ℕ} 0 1 = cc in omega arith
 
-      only : conversion from to text out ≡ Refused TextIsNoJob → (job : Job) → IsText from text job → ⊥
+      only : conversion from to text out ≡ Err TextIsNoJob → (job : Job) → IsText from text job → ⊥
       only e job is = other (is_smallest job.header.choice) (eqb (length out + length (smallest_bytes from)) (length text + length (smallest_bytes to))) (rw (parse_text from text job is) at e)
 
-      always : ((job : Job) → IsText from text job → ⊥) → (o : Option Job) → parse from text ≡ o → conversion from to text out ≡ Refused TextIsNoJob
+      always : ((job : Job) → IsText from text job → ⊥) → (o : Option Job) → parse from text ≡ o → conversion from to text out ≡ Err TextIsNoJob
       always none_is (some job) e = absurd (none_is job (text_parsed from text job e))
       always none_is none e = rw e
 
   -- 14 FOR EVERY TEXT WITH b, also where the output's length is wrong
-  pub fourteen : (job : Job) → IsText from text job → job.header.choice ≡ Binomial → conversion from to text out ≡ Refused CannotGoBack
+  pub fourteen : (job : Job) → IsText from text job → job.header.choice ≡ Binomial → conversion from to text out ≡ Err CannotGoBack
   fourteen job is b = rw (parse_text from text job is) (rw b)
 
   -- 9 FOR EVERY OTHER LENGTH
-  pub nine : (job : Job) → IsText from text job → job.header.choice ≡ Smallest → (length out + length (smallest_bytes from) ≡ length text + length (smallest_bytes to) → ⊥) → conversion from to text out ≡ Refused WrongLength
+  pub nine : (job : Job) → IsText from text job → job.header.choice ≡ Smallest → (length out + length (smallest_bytes from) ≡ length text + length (smallest_bytes to) → ⊥) → conversion from to text out ≡ Err WrongLength
   nine job is smallest wrong = rw (parse_text from text job is) (rw (smallest, ne_eqb _ _ wrong))

@@ -4,7 +4,6 @@ use Rattle.std.specs.Prelude.{Bool, true, false, cond, List, [], ◌∷◌, ◌+
 use Rattle.std.proofs.Math.Option.{Option, some, none}
 use Rattle.limits.specs.Errors.{Check, ◌otherwise◌, first_refusal, held_after}
 use Rattle.limits.specs.declared.ErrorCode.TheVariants.{TextIsNoJob, WrongLength, CannotGoBack}
-use Rattle.limits.specs.declared.Outcome.{Outcome}
 use Rattle.kernel.specs.declared.Choice.{Choice}
 use Rattle.kernel.specs.declared.Choice.TheVariants.{Binomial, Smallest}
 use Rattle.job_printer.specs.Fields.{tab, newline}
@@ -13,6 +12,7 @@ use Rattle.job_parser.specs.Job.{Job}
 use Rattle.job_parser.specs.Parsing.{parse}
 use Rattle.job_parser.specs.declared.Format.{Format}
 use Rattle.job_parser.specs.declared.Format.TheVariants.{J, N}
+use Rattle.limits.specs.Errors.{Outcome}
 
 -- where line one ends: the place of the first newline
 unfoldable pub line_end : List ℕ → ℕ

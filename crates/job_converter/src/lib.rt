@@ -2,126 +2,90 @@
 // or answers refusal 1, 14 or 9 and leaves the output as it was.
 #![tactic(auto)]
 
-ghost use Rattle.std.specs.Prelude.{◌≡◌, ◌+◌, ◌≤◌, length};
+ghost use Rattle.std.specs.Prelude.{◌≡◌, ◌+◌, ◌≤◌, ◌==◌, length, position, Ok};
 ghost use Rattle.limits.specs.Errors.{first_refusal};
-ghost use Rattle.job_printer.specs.Buffers.{Wrote};
 ghost use Rattle.job_parser.specs.Formats.{longest_of};
 ghost use Rattle.job_converter.specs.Conversion.{line_end, smallest_bytes, converted, length_checks, conversion_checks, conversion, output_after};
 
-use job_parser::{Format, JobText};
+use job_parser::Format;
+use job_printer::Printer;
 use kernel::Choice;
-use limits::{ErrorCode, Outcome};
+use limits::ErrorCode;
 
-// How many bytes name the smallest choice in a format.
-fn choice_length(format: Format) -> usize
-    ensures { result ≡ length (smallest_bytes format) }
+// What names the smallest choice in a format.
+fn smallest(format: Format) -> &'static [u8]
+    ensures { result.now ≡ smallest_bytes format }
 {
     match format {
-        Format::J => 0,
-        Format::N => 2,
+        Format::J => &[],
+        Format::N => b"\ts",
     }
 }
 
 // Refusal 9, where the output has another length than a text of so many bytes in the other format.
-fn fitting(from: Format, to: Format, text: usize, size: usize) -> Outcome
+fn fitting(from: Format, to: Format, text: usize, size: usize) -> Result<(), ErrorCode>
     requires le_text { 2 ≤ text }
     requires text_bound { text ≤ longest_of Format.N }
     ensures { result ≡ first_refusal (length_checks from to text size) }
 {
-    let wanted = text + choice_length(to) - choice_length(from);
-    if size == wanted {
-        return Outcome::Accepted;
+    let wanted = text + smallest(to).len() - smallest(from).len();
+    if size != wanted {
+        return Err(ErrorCode::WrongLength);
     }
-    Outcome::Refused(ErrorCode::WrongLength)
+    Ok(())
 }
 
 // Refusals 1, 14 and 9, the first that applies, of a text and an output of so many bytes.
-fn checked(from: Format, to: Format, text: &[u8], size: usize) -> Outcome
+fn checked(from: Format, to: Format, text: &[u8], size: usize) -> Result<(), ErrorCode>
     ensures { result ≡ first_refusal (conversion_checks from to text.now size) }
 {
     // The reader puts the pixels into a picture, which nobody reads here.
     let mut pixels = job_parser::blank_picture();
-    match job_parser::read_job(from, text, &mut pixels) {
-        JobText::Job(header) => {
-            let choice = header.choice;
-            match choice {
-                Choice::Smallest => fitting(from, to, text.len(), size),
-                Choice::Binomial => Outcome::Refused(ErrorCode::CannotGoBack),
-            }
-        }
-        JobText::NoJob => Outcome::Refused(ErrorCode::TextIsNoJob),
+    let header = job_parser::read_job(from, text, &mut pixels).ok_or(ErrorCode::TextIsNoJob)?;
+    match header.choice {
+        Choice::Smallest => fitting(from, to, text.len(), size),
+        Choice::Binomial => Err(ErrorCode::CannotGoBack),
     }
 }
 
+fn newline_at(text: &[u8]) -> Option<usize>
+    ensures { result ≡ position (λ byte. byte == 10) text.now }
+{
+    text.iter().position(|byte| *byte == b'\n')
+}
+
+// Where line one ends.
 fn line_end(text: &[u8]) -> usize
     ensures { result ≡ line_end text.now }
 {
-    let mut at = 0;
-    while at < text.len() {
-        if text[at] == b'\n' {
-            return at;
-        }
-        at += 1;
-    }
-    at
-}
-
-// Bytes from a place of the output on, and the place after them.
-fn put_bytes(out: &mut [u8], at: usize, bytes: &[u8]) -> usize
-    requires { at + length bytes.now ≤ length out.old }
-    ensures { Wrote out.old at bytes.now out.new result }
-{
-    let mut next = at;
-    for i in 0..bytes.len() {
-        out[next] = bytes[i];
-        next += 1;
-    }
-    next
-}
-
-// What names the smallest choice in a format.
-fn put_choice(out: &mut [u8], at: usize, format: Format) -> usize
-    requires { at + length (smallest_bytes format) ≤ length out.old }
-    ensures { Wrote out.old at (smallest_bytes format) out.new result }
-{
-    match format {
-        Format::J => at,
-        Format::N => {
-            out[at] = b'\t';
-            out[at + 1] = b's';
-            at + 2
-        }
-    }
+    newline_at(text).unwrap_or(text.len())
 }
 
 // The text in the other format: its letter, line one with or without the choice, and the rest as it is.
 fn respell(from: Format, to: Format, text: &[u8], out: &mut [u8])
-    requires { first_refusal (conversion_checks from to text.now (length out.old)) ≡ Outcome.Accepted }
+    requires { first_refusal (conversion_checks from to text.now (length out.old)) ≡ Ok tt }
     ensures { out.new ≡ converted from to text.now }
 {
     let end = line_end(text);
-    let kept = end - choice_length(from);
-    out[0] = job_parser::letter(to);
-    let next = put_bytes(out, 1, &text[1..kept]);
-    let next = put_choice(out, next, to);
-    put_bytes(out, next, &text[end..]);
+    let kept = end - smallest(from).len();
+    let mut printer = Printer::new(out);
+    printer.bytes(&[to.letter()]);
+    printer.bytes(&text[1..kept]);
+    printer.bytes(smallest(to));
+    printer.bytes(&text[end..]);
 }
 
-fn convert(from: Format, to: Format, text: &[u8], out: &mut [u8]) -> Outcome
+fn convert(from: Format, to: Format, text: &[u8], out: &mut [u8]) -> Result<(), ErrorCode>
     ensures value { result ≡ conversion from to text.now out.old }
     ensures out_after { out.new ≡ output_after from to text.now out.old }
 {
-    match checked(from, to, text, out.len()) {
-        Outcome::Accepted => {
-            respell(from, to, text, out);
-            Outcome::Accepted
-        }
-        Outcome::Refused(code) => Outcome::Refused(code),
-    }
+    checked(from, to, text, out.len())?;
+    respell(from, to, text, out);
+    Ok(())
 }
 
 // An archived text, J, as the N text with the smallest choice. Refusals 1, and 9 where the output has not two bytes more.
-pub fn j_to_n(text: &[u8], out: &mut [u8]) -> Outcome
+pub fn j_to_n(text: &[u8], out: &mut [u8]) -> Result<(), ErrorCode>
     ensures value { result ≡ conversion Format.J Format.N text.now out.old }
     ensures out_after { out.new ≡ output_after Format.J Format.N text.now out.old }
 {
@@ -130,7 +94,7 @@ pub fn j_to_n(text: &[u8], out: &mut [u8]) -> Outcome
 
 // An N text with the smallest choice as the archived text, J. Refusals 1, 14 where it names the other choice, and 9 where the output has
 // not two bytes less.
-pub fn n_to_j(text: &[u8], out: &mut [u8]) -> Outcome
+pub fn n_to_j(text: &[u8], out: &mut [u8]) -> Result<(), ErrorCode>
     ensures value { result ≡ conversion Format.N Format.J text.now out.old }
     ensures out_after { out.new ≡ output_after Format.N Format.J text.now out.old }
 {

@@ -12,7 +12,7 @@ use Rattle.job_parser.specs.declared.Format.TheVariants.{J, N}
 use Rattle.job_parser.specs.Formats.{longest_of}
 use Rattle.job_parser.specs.Pictures.{most_pixels}
 use Rattle.job_parser.proofs.Parsing.{header_long}
-use Rattle.job_parser.proofs.Filling.{line_long}
+use Rattle.job_parser.proofs.Rows.{line_long}
 
 pub split : (n : ℕ) (l : List ℕ) → length (take n l) + length (drop n l) ≡ length l
 split n l = sym (length-append (take n l) (drop n l)) ∙ ap length (take-append-drop n l)

@@ -42,7 +42,7 @@ too_long_archived text h = rw (lt-leb (length text) (longest_of J) h)
 
 -- ---- a text and its job
 abbrev pub job : ℤ → ℤ → ℤ → ℕ → ℕ → ℕ → Choice → List ℕ → Job
-job xx xy yy k w h choice pixels = record { header = record { xx = xx; xy = xy; yy = yy; steps = k; width = w; height = h; choice = choice }; pixels = pixels }
+job xx xy yy k w h choice pixels = record { header = record { covariance = record { xx = xx; xy = xy; yy = yy }; steps = k; width = w; height = h; choice = choice }; pixels = pixels }
 
 abbrev pub jobs : List (Format × String × Job)
 jobs =

@@ -1,127 +1,56 @@
--- A picture that is filled while pixels are read: what was found so far is what was stored, and what is left to be read is read
--- from a place on. Each pixel takes at least two bytes, so that there is room for the next one. Assumes nothing.
-use mathlib.Core.Path.{◌≡◌, refl, sym, ◌∙◌}
-use mathlib.Core.List.{List, [], ◌∷◌, ◌++◌, append_assoc, append-nil, map}
-use Prim.Native.Nat.{ℕ, zero, suc, ◌+◌, ◌*◌, ◌≤◌, ◌<◌}
-use native.Mathlib.Nat.{add-zero}
+-- Pixels that are read part by part: what a reading finds is what was found before, and then what is found further on. Assumes
+-- nothing.
+use mathlib.Core.Path.{◌≡◌, refl, ◌∙◌}
+use mathlib.Core.List.{List, [], ◌∷◌, ◌++◌, append_assoc, append-nil}
+use Prim.Native.Nat.{ℕ, zero, suc, ◌+◌, ◌-◌, ◌*◌, ◌≤◌, ◌<◌}
 use native.Mathlib.Omega.{arith}
-use lib.ListN.{length, drop, set, length-set, length-append}
+use native.Mathlib.Nat.{mul-le-mul_right}
+use borrow.Rule.Slice.PartMut.{mid_of, put_mid, mid_len}
+use lib.ListN.{length, take, set}
+use lib.Seq.{take_all}
+use Rattle.std.proofs.lemmas.List.{take_more_set}
+use Rattle.std.proofs.lemmas.Slice.{take-put_mid}
 use Rattle.limits.specs.Limits.{largest_pixel}
-use Rattle.job_printer.specs.Numerals.{numeral}
-use Rattle.job_printer.specs.Fields.{separator, line}
-use Rattle.job_printer.specs.Buffers.{written}
-use Rattle.job_printer.proofs.Numerals.{numeral_long}
-use Rattle.job_printer.proofs.Buffers.{written_none, written_one, written_on}
-use Rattle.job_parser.specs.Job.{EachAtMost}
-use Rattle.job_parser.specs.Reading.{Reading, found, nothing, Reader, and_then, pure, read_number, read_row, read_rows}
-use Rattle.job_parser.specs.Found.{place_of}
-use Rattle.job_parser.specs.Pictures.{Room, Stored}
-use Rattle.job_parser.specs.declared.cursor.Cursor.{Cursor}
-use Rattle.job_parser.specs.declared.cursor.Place.TheVariants.{After, Nowhere}
-use Rattle.job_parser.proofs.Places.{Got, NumberCame, two_on, Came, came, place_got, no_place}
-use Rattle.job_parser.proofs.Rows.{row_only}
+use Rattle.job_printer.specs.Fields.{separator}
+use Rattle.job_parser.specs.Reading.{Reading, found, nothing, and_then, pure, read_number, read_row, read_rows}
 
 -- the pixels that were found before, and then those that a reading finds
 abbrev pub prepend : List ℕ → Reading (List ℕ) → Reading (List ℕ)
 prepend done r = and_then r (λ pixels. pure (done ++ pixels))
 
-prepend_more : (done more : List ℕ) (r : Reading (List ℕ)) → prepend done (prepend more r) ≡ prepend (done ++ more) r
+pub prepend_more : (done more : List ℕ) (r : Reading (List ℕ)) → prepend done (prepend more r) ≡ prepend (done ++ more) r
 prepend_more done more (found pixels rest) = rw append_assoc
 prepend_more done more nothing = refl
 
-prepend_none : (r : Reading (List ℕ)) → r ≡ prepend [] r
+pub prepend_none : (r : Reading (List ℕ)) → prepend [] r ≡ r
 prepend_none (found pixels rest) = refl
 prepend_none nothing = refl
 
-pub record Filling (whole : Reading (List ℕ)) (left : Reader (List ℕ)) (text : List ℕ) (at : ℕ) (entry : List ℕ) (from : ℕ) (picture : List ℕ) (to : ℕ) : Type 0 where
-  pub done : List ℕ
-  pub reads : whole ≡ prepend done (left (drop at text))
-  pub stored : picture ≡ written entry from done
-  pub to_is : to ≡ from + length done
-  pub same : length picture ≡ length entry
-  pub room : Room text at picture to
+-- one pixel more, or none
+pub pixel_read : (n p : ℕ) (done text rest : List ℕ) → read_number largest_pixel (separator n) text ≡ found p rest → prepend done (read_row (suc n) text) ≡ prepend (done ++ p ∷ []) (read_row n rest)
+unfolding read_row
+pixel_read n p done text rest e = rw e (prepend_more done (p ∷ []) (read_row n rest))
 
-pub begun : (reader : Reader (List ℕ)) (text : List ℕ) (at : ℕ) (picture : List ℕ) (from : ℕ) → Room text at picture from → Filling (reader (drop at text)) reader text at picture from picture from
-begun reader text at picture from room =
-    record { done = []; reads = prepend_none (reader (drop at text)); stored = sym (written_none picture from); to_is = sym (add-zero from); same = refl; room = room }
+pub no_pixel : (n : ℕ) (done text : List ℕ) → read_number largest_pixel (separator n) text ≡ nothing → prepend done (read_row (suc n) text) ≡ nothing
+unfolding read_row
+no_pixel n done text e = rw e
 
-module _ {whole : Reading (List ℕ)} {text : List ℕ} {at : ℕ} {entry : List ℕ} {from : ℕ} {picture : List ℕ} {to : ℕ} where
-  -- all that was to be read has been found
-  pub full : Filling whole (pure []) text at entry from picture to → (done : List ℕ) × (whole ≡ found done (drop at text)) × (picture ≡ written entry from done)
-  full f = (f.done, f.reads ∙ rw append-nil, f.stored)
+pub row_done : (done text : List ℕ) → prepend done (read_row 0 text) ≡ found done text
+unfolding read_row
+row_done done text = rw append-nil
 
-  -- a pixel finds room
-  pub fits : (n p next : ℕ) → Filling whole (read_row (suc n)) text at entry from picture to → NumberCame largest_pixel (separator n) text at p next → to < length picture
-  fits n p next f came = omega (arith, two_on largest_pixel (separator n) text at p next came, came.inside, f.room.short, f.room.room, f.room.before)
+-- one line more, or none
+pub row_read : (w h : ℕ) (done pixels text rest : List ℕ) → read_row w text ≡ found pixels rest → prepend done (read_rows w (suc h) text) ≡ prepend (done ++ pixels) (read_rows w h rest)
+unfolding read_rows
+row_read w h done pixels text rest e = rw e (prepend_more done pixels (read_rows w h rest))
 
-  pub one_pixel : (n p next : ℕ) → Filling whole (read_row (suc n)) text at entry from picture to → NumberCame largest_pixel (separator n) text at p next → Filling whole (read_row n) text next entry from (set picture to p) (to + 1)
-  unfolding read_row
-  one_pixel n p next f came =
-      let two = two_on largest_pixel (separator n) text at p next came in
-      let inside = came.inside in
-      let room = f.room in
-      let long = f.to_is in
-      let same = f.same in
-      let place : from + length f.done < length entry = omega (arith, fits n p next f came) in
-      record {
-        done = f.done ++ p ∷ [];
-        reads = f.reads ∙ rw came.reading (prepend_more f.done (p ∷ []) (read_row n (drop next text)));
-        stored = rw (f.stored, f.to_is) (written_one entry from f.done p place);
-        to_is = rw (length-append f.done (p ∷ []), long) (omega arith);
-        same = rw length-set same;
-        room = record { short = room.short; inside = inside; room = rw length-set room.room; before = omega arith };
-      }
+pub no_row : (w h : ℕ) (done text : List ℕ) → read_row w text ≡ nothing → prepend done (read_rows w (suc h) text) ≡ nothing
+unfolding read_rows
+no_row w h done text e = rw e
 
-  pub no_pixel : (n : ℕ) → Filling whole (read_row (suc n)) text at entry from picture to → read_number largest_pixel (separator n) (drop at text) ≡ nothing → whole ≡ nothing
-  unfolding read_row
-  no_pixel n f e = f.reads ∙ rw e
-
--- a line has at least two bytes for each pixel
-pub line_long : (pixels : List ℕ) → 2 * length pixels ≤ length (line (map numeral pixels))
-unfolding line
-line_long [] = omega arith
-line_long (p ∷ ps) = rw length-append (omega (arith, numeral_long p, line_long ps))
-
--- a line that was read
-abbrev RowCame : ℕ → List ℕ → ℕ → List ℕ → ℕ → Type 0
-RowCame w = Came (read_row w) (λ ps. line (map numeral ps)) (λ ps. (length ps ≡ w) × EachAtMost largest_pixel ps)
-
-row_came : (w : ℕ) (text : List ℕ) (at : ℕ) (pixels : List ℕ) (next : Cursor) → at ≤ length text → Got text (read_row w (drop at text)) pixels next → RowCame w text at pixels next.at
-row_came w = came (λ ps. line (map numeral ps)) (λ ps. (length ps ≡ w) × EachAtMost largest_pixel ps) only
-  where
-    only : (text pixels rest : List ℕ) → read_row w text ≡ found pixels rest → (text ≡ line (map numeral pixels) ++ rest) × ((length pixels ≡ w) × EachAtMost largest_pixel pixels)
-    only text pixels rest h = let r = row_only w text pixels rest h in (r.is, (r.count, r.small))
-
-module _ {whole : Reading (List ℕ)} {text : List ℕ} {at : ℕ} {entry : List ℕ} {from : ℕ} {picture : List ℕ} {to : ℕ} where
-  row_stored : (w h next : ℕ) (ps after : List ℕ) → Filling whole (read_rows w (suc h)) text at entry from picture to → RowCame w text at ps next → after ≡ written picture to ps → length after ≡ length picture → Filling whole (read_rows w h) text next entry from after (to + w)
-  unfolding read_rows
-  row_stored w h next ps after f row stored same =
-      let room = f.room in
-      let count : length ps ≡ w = row.allowed.0 in
-      let long = line_long ps in
-      let on = row.on in
-      let inside = row.inside in
-      let to_is = f.to_is in
-      let was = f.same in
-      let place : from + length f.done ≤ length entry = omega (arith, room.short, room.inside, room.room, room.before) in
-      record {
-        done = f.done ++ ps;
-        reads = f.reads ∙ rw row.reading (prepend_more f.done ps (read_rows w h (drop next text)));
-        stored = stored ∙ rw (f.stored, f.to_is) (written_on entry from f.done place ps);
-        to_is = rw (length-append f.done ps, to_is, count) (omega arith);
-        same = same ∙ was;
-        room = record { short = room.short; inside = inside; room = rw same room.room; before = omega arith };
-      }
-
-  pub one_row : (w h : ℕ) (next : Cursor) (after : List ℕ) → Filling whole (read_rows w (suc h)) text at entry from picture to → place_of text (read_row w (drop at text)) ≡ After next → Stored (read_row w (drop at text)) picture to after → length after ≡ length picture → Filling whole (read_rows w h) text next.at entry from after (to + w)
-  one_row w h next after f e stored same =
-      let got = place_got text (read_row w (drop at text)) next e in
-      let row = row_came w text at got.0 next f.room.inside got.1 in
-      row_stored w h next.at got.0 after f row (stored got.0 (drop next.at text) row.reading) same
-
-  pub no_row : (w h : ℕ) → Filling whole (read_rows w (suc h)) text at entry from picture to → place_of text (read_row w (drop at text)) ≡ Nowhere → whole ≡ nothing
-  unfolding read_rows
-  no_row w h f e = f.reads ∙ rw (no_place text (read_row w (drop at text)) e)
+pub rows_done : (w : ℕ) (done text : List ℕ) → prepend done (read_rows w 0 text) ≡ found done text
+unfolding read_rows
+rows_done w done text = rw append-nil
 
 -- lines of no pixels are no lines
 pub no_lines : (h : ℕ) (text : List ℕ) → read_rows 0 h text ≡ found [] text
@@ -129,10 +58,58 @@ unfolding read_rows read_row
 no_lines zero text = refl
 no_lines (suc h) text = rw (no_lines h text)
 
--- a finding has one list of pixels
-module _ (whole : Reading (List ℕ)) (entry : List ℕ) (from : ℕ) (picture : List ℕ) where
-  pub stored_once : (done rest : List ℕ) → whole ≡ found done rest → picture ≡ written entry from done → Stored whole entry from picture
-  stored_once done rest e s pixels rest' h = let same : done ≡ pixels = cc in s ∙ rw same
+-- the turns of the loops that fill a picture
+module _ (width place : ℕ) (pixels text : List ℕ) (long : length pixels ≡ width) where
+  pub pixel_on : (p : ℕ) (rest : List ℕ) → place < width → read_number largest_pixel (separator (width - 1 - place)) text ≡ found p rest → prepend (take place pixels) (read_row (width - place) text) ≡ prepend (take (place + 1) (set pixels place p)) (read_row (width - (place + 1)) rest)
+  pixel_on p rest more e =
+      let one : width - place ≡ suc (width - 1 - place) = omega arith in
+      let left : width - (place + 1) ≡ width - 1 - place = omega arith in
+      let inside : place < length pixels = omega arith in
+      rw (one, left, take_more_set pixels place p inside) (pixel_read (width - 1 - place) p (take place pixels) text rest e)
 
-  pub stored_never : whole ≡ nothing → Stored whole entry from picture
-  stored_never e pixels rest h = let z : ◌≡◌ {A = ℕ} 0 1 = cc in absurd (omega arith)
+  pub pixel_off : place < width → read_number largest_pixel (separator (width - 1 - place)) text ≡ nothing → prepend (take place pixels) (read_row (width - place) text) ≡ nothing
+  pixel_off more e =
+      let one : width - place ≡ suc (width - 1 - place) = omega arith in
+      rw one (no_pixel (width - 1 - place) (take place pixels) text e)
+
+  pub row_full : width ≤ place → prepend (take place pixels) (read_row (width - place) text) ≡ found pixels text
+  row_full last =
+      let none : width - place ≡ 0 = omega arith in
+      let all : take place pixels ≡ pixels = take_all place pixels (omega arith) in
+      rw (none, all) (row_done pixels text)
+
+module _ (w h row : ℕ) (pixels text : List ℕ) (long : length pixels ≡ w * h) where
+  -- the next line's place in the picture
+  abbrev pub part : List ℕ
+  part = mid_of (row * w) ((row + 1) * w - row * w) pixels
+
+  inside : row < h → row * w + w ≤ length pixels
+  inside more =
+      let up : row + 1 ≤ h = omega arith in
+      let most : (row + 1) * w ≤ h * w = mul-le-mul_right w up in
+      omega arith
+
+  part_long : row < h → length part ≡ w
+  part_long more =
+      let room = inside more in
+      mid_len (row * w) ((row + 1) * w) pixels (omega arith) ∙ omega arith
+
+  pub row_on : (line rest : List ℕ) → row < h → length line ≡ length part → read_row (length part) text ≡ found line rest → prepend (take (row * w) pixels) (read_rows w (h - row) text) ≡ prepend (take ((row + 1) * w) (put_mid (row * w) ((row + 1) * w - row * w) pixels line)) (read_rows w (h - (row + 1)) rest)
+  row_on line rest more same e =
+      let one : h - row ≡ suc (h - (row + 1)) = omega arith in
+      let room = inside more in
+      let size : length line ≡ w = same ∙ part_long more in
+      rw (one, take-put_mid (row * w) ((row + 1) * w - row * w) pixels line ((row + 1) * w) (omega arith) (omega arith))
+      (row_read w (h - (row + 1)) (take (row * w) pixels) line text rest (rw (part_long more) at e))
+
+  pub row_off : row < h → read_row (length part) text ≡ nothing → prepend (take (row * w) pixels) (read_rows w (h - row) text) ≡ nothing
+  row_off more e =
+      let one : h - row ≡ suc (h - (row + 1)) = omega arith in
+      rw one (no_row w (h - (row + 1)) (take (row * w) pixels) text (rw (part_long more) at e))
+
+  pub rows_full : h ≤ row → prepend (take (row * w) pixels) (read_rows w (h - row) text) ≡ found pixels text
+  rows_full last =
+      let none : h - row ≡ 0 = omega arith in
+      let most : h * w ≤ row * w = mul-le-mul_right w last in
+      let all : take (row * w) pixels ≡ pixels = take_all (row * w) pixels (omega arith) in
+      rw (none, all) (rows_done w pixels text)

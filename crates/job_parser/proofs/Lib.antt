@@ -1,11 +1,9 @@
 -- Laws.
 pub mod Readers
 pub mod Rows
-pub mod Parsing
-pub mod Places
-pub mod Chains
 pub mod Filling
-pub mod Jobs
+pub mod Parsing
 pub mod Bounds
+pub mod Jobs
 pub mod Theorems
 pub mod Cases

@@ -20,7 +20,7 @@ use Rattle.job_parser.specs.declared.Format.TheVariants.{J, N}
 use Rattle.job_parser.specs.Formats.{letter_of, longest_of, choice_letter, height_end, CanHave}
 use Rattle.job_parser.specs.Reading.{Reading, found, nothing, Reader, and_then, ◌>>=◌, read_byte, read_number, read_signed, read_letter, read_choice, read_rows}
 use Rattle.job_parser.specs.Parsing.{read_entries, read_sizes, header_from, read_header, read_job, whole, parse}
-use Rattle.job_parser.specs.declared.Entries.{Entries}
+use Rattle.kernel.specs.declared.Covariance.{Covariance}
 use Rattle.job_parser.specs.declared.Sizes.{Sizes}
 use Rattle.job_parser.specs.declared.Header.{Header}
 use Rattle.job_parser.proofs.Readers.{Reads, Only, Exact, halves, as_found, byte_exact, number_exact, number_only, signed_exact, signed_only, letter_exact}
@@ -41,7 +41,7 @@ end_apart : (format : Format) → height_end format < digit 0
 end_apart J = omega arith
 end_apart N = omega arith
 
-abbrev pub entries_text : Entries → List ℕ
+abbrev pub entries_text : Covariance → List ℕ
 entries_text e = (integer e.xx ++ tab ∷ []) ++ ((integer e.xy ++ tab ∷ []) ++ (integer e.yy ++ tab ∷ []))
 
 abbrev pub sizes_text : ℕ → Sizes → List ℕ
@@ -51,7 +51,7 @@ abbrev pub choice_text : Format → Choice → List ℕ
 choice_text J choice = []
 choice_text N choice = choice_letter choice ∷ newline ∷ []
 
-pub record EntriesInTypes (e : Entries) : Type 0 where
+pub record EntriesInTypes (e : Covariance) : Type 0 where
   pub xx : Signed e.xx
   pub xy : Signed e.xy
   pub yy : Signed e.yy
@@ -137,14 +137,11 @@ pub choice_exact : (format : Format) → Exact (read_choice format) (choice_text
 choice_exact format = record { reads = choice_reads format; only = choice_only format }
 
 -- line one in its parts
-abbrev entries_of_lem : Header → Entries
-entries_of_lem h = record { xx = h.xx; xy = h.xy; yy = h.yy }
-
 abbrev sizes_of_lem : Header → Sizes
 sizes_of_lem h = record { steps = h.steps; width = h.width; height = h.height }
 
 abbrev pub parts_text : Format → Header → List ℕ
-parts_text format h = letter_of format ∷ tab ∷ (entries_text (entries_of_lem h) ++ (sizes_text (height_end format) (sizes_of_lem h) ++ choice_text format h.choice))
+parts_text format h = letter_of format ∷ tab ∷ (entries_text h.covariance ++ (sizes_text (height_end format) (sizes_of_lem h) ++ choice_text format h.choice))
 
 pub parts : (format : Format) (h : Header) → header_text format h ≡ parts_text format h
 unfolding line
@@ -155,7 +152,7 @@ module _ (format : Format) where
   header_reads : Reads (read_header format) (header_text format) (HeaderInTypes format)
   unfolding read_header
   header_reads h rest types =
-      let e = entries_of_lem h in
+      let e = h.covariance in
       let s = sizes_of_lem h in
       let after_sizes = choice_text format h.choice ++ rest in
       let after_entries = sizes_text (height_end format) s ++ after_sizes in
@@ -192,7 +189,7 @@ module _ (format : Format) where
   header_long h =
       rw parts
       (simp length-append
-      (omega (arith, integer_long h.xx, integer_long h.xy, integer_long h.yy, numeral_long h.steps, numeral_long h.width, numeral_long h.height)))
+      (omega (arith, integer_long h.covariance.xx, integer_long h.covariance.xy, integer_long h.covariance.yy, numeral_long h.steps, numeral_long h.width, numeral_long h.height)))
 
   job_reads : Reads (read_job format) (text_of format) (InTypes format)
   unfolding read_job

@@ -9,6 +9,7 @@ use lib.Seq.{length-take-le, take_at, drop_at}
 use Rattle.limits.specs.Limits.{largest_pixel}
 use Rattle.job_printer.specs.Numerals.{digit, numeral}
 use Rattle.job_printer.specs.Fields.{separator, line, row_lines}
+use Rattle.job_printer.proofs.Numerals.{numeral_long}
 use Rattle.job_parser.specs.Job.{EachAtMost}
 use Rattle.job_parser.specs.Reading.{found, ◌>>=◌, pure, read_number, read_row, read_rows}
 use Rattle.job_parser.proofs.Readers.{halves, as_found, number_exact}
@@ -39,6 +40,12 @@ module _ (limit : ℕ) where
   small_back zero ps h = h
   small_back (suc n) [] h = tt
   small_back (suc n) (p ∷ ps) h = small_back n ps h.1
+
+-- a line has at least two bytes for each pixel
+pub line_long : (pixels : List ℕ) → 2 * length pixels ≤ length (line (map numeral pixels))
+unfolding line
+line_long [] = omega arith
+line_long (p ∷ ps) = rw length-append (omega (arith, numeral_long p, line_long ps))
 
 -- what is known of a text in which pixels were found: one line of n, or h lines of w
 pub record RowFound (n : ℕ) (text pixels rest : List ℕ) : Type 0 where

@@ -7,7 +7,7 @@ use Rattle.job_parser.specs.declared.Format.{Format}
 use Rattle.job_parser.specs.declared.Header.{Header}
 use Rattle.job_parser.specs.Formats.{letter_of, longest_of, choice_fields, CanHave}
 
--- `Header` has the fields xx, xy, yy, steps, width, height, choice
+-- `Header` has the fields covariance (xx, xy, yy), steps, width, height, choice
 pub record Job : Type 0 where
   pub header : Header
   pub pixels : List ℕ
@@ -16,7 +16,7 @@ pub record Job : Type 0 where
 abbrev pub header_text : Format → Header → List ℕ
 header_text format header =
     line
-    ((letter_of format ∷ []) ∷ integer header.xx ∷ integer header.xy ∷ integer header.yy
+    ((letter_of format ∷ []) ∷ integer header.covariance.xx ∷ integer header.covariance.xy ∷ integer header.covariance.yy
     ∷ numeral header.steps ∷ numeral header.width ∷ numeral header.height ∷ choice_fields format header.choice)
 
 -- "then h lines of w pixels; where w or h is 0 no pixel line follows"
@@ -44,9 +44,9 @@ EachAtMost limit (n ∷ ns) = (n ≤ limit) × EachAtMost limit ns
 
 -- "Shape fields are signed 32-bit, k, w, h unsigned 32-bit", and a choice that the format can have
 pub record HeaderInTypes (format : Format) (header : Header) : Type 0 where
-  pub xx : Signed header.xx
-  pub xy : Signed header.xy
-  pub yy : Signed header.yy
+  pub xx : Signed header.covariance.xx
+  pub xy : Signed header.covariance.xy
+  pub yy : Signed header.covariance.yy
   pub steps : header.steps ≤ most_unsigned
   pub width : header.width ≤ most_unsigned
   pub height : header.height ≤ most_unsigned

@@ -3,8 +3,8 @@
 use Rattle.std.specs.Prelude.{cond, List, [], ◌∷◌, ℕ, length, leb}
 use Rattle.std.proofs.Math.Option.{Option, some, none}
 use Rattle.kernel.specs.declared.Choice.{Choice}
+use Rattle.kernel.specs.declared.Covariance.{Covariance}
 use Rattle.job_printer.specs.Fields.{tab}
-use Rattle.job_parser.specs.declared.Entries.{Entries}
 use Rattle.job_parser.specs.declared.Sizes.{Sizes}
 use Rattle.job_parser.specs.declared.Header.{Header}
 use Rattle.job_parser.specs.declared.Format.{Format}
@@ -13,7 +13,7 @@ use Rattle.job_parser.specs.Job.{Job, most_unsigned}
 use Rattle.job_parser.specs.Reading.{Reading, found, nothing, Reader, ◌>>=◌, ◌>>◌, pure, read_byte, read_number, read_signed, read_choice, read_rows}
 
 -- "Line one: N, xx, xy, yy, k, w, h and s or b"; "Line one: J, xx, xy, yy, k, w, h"
-unfoldable pub read_entries : Reader Entries
+unfoldable pub read_entries : Reader Covariance
 read_entries = do
   xx ← read_signed tab
   xy ← read_signed tab
@@ -28,9 +28,9 @@ read_sizes end = do
   height ← read_number most_unsigned end
   pure (record { steps = steps; width = width; height = height })
 
-abbrev pub header_from : Entries → Sizes → Choice → Header
+abbrev pub header_from : Covariance → Sizes → Choice → Header
 header_from e s choice =
-    record { xx = e.xx; xy = e.xy; yy = e.yy; steps = s.steps; width = s.width; height = s.height; choice = choice }
+    record { covariance = e; steps = s.steps; width = s.width; height = s.height; choice = choice }
 
 unfoldable pub read_header : Format → Reader Header
 read_header format = do

@@ -1,143 +1,98 @@
-// Reading a text field by field: a place in it by value, and for each kind of field the value with the place after it, or
-// that no such field stands there.
-ghost use Rattle.std.specs.Prelude.{◌≡◌, ◌-◌, ◌<◌, ◌≤◌, drop, pos, negsuc};
-ghost use Rattle.job_parser.specs.Job.{most_positive, most_negative};
-ghost use Rattle.job_parser.specs.Reading.{is_digit, read_byte, read_digits, read_number, read_negative, read_signed};
-ghost use Rattle.job_parser.specs.Found.{place_of, field_of, signed_of};
+// Reading a text field by field, from its front on: each method passes what it reads and gives its value, or None where no such
+// field stands there, and then nobody reads on.
+ghost use Rattle.std.specs.Prelude.{◌≡◌, ◌≤◌, IfSome};
+ghost use Rattle.job_parser.specs.Reading.{read_byte, read_digits, read_number, read_negative, read_signed};
+ghost use Rattle.job_parser.specs.Found.{Reads};
 
 // The sizes of signed 32-bit numbers.
-const MOST_POSITIVE: u32 = 2147483647;
+const MOST_POSITIVE: u32 = i32::MAX as u32;
 
-const MOST_NEGATIVE: u32 = 2147483648;
+const MOST_NEGATIVE: u32 = MOST_POSITIVE + 1;
 
-#[derive(Clone, Copy)]
-pub struct Cursor {
-    pub at: usize,
+// What is left of a text.
+#[derive(Drop)]
+pub struct Cursor<'a> {
+    pub rest: &'a [u8],
 }
 
-#[derive(Clone, Copy)]
-pub enum Place {
-    After(Cursor),
-    Nowhere,
-}
-
-#[derive(Clone, Copy)]
-pub enum Field {
-    Value(u32, Cursor),
-    NoField,
-}
-
-#[derive(Clone, Copy)]
-pub enum SignedField {
-    Value(i32, Cursor),
-    NoField,
-}
-
-fn is_digit(byte: u8) -> bool
-    ensures { result ≡ is_digit byte }
-{
-    if b'0' <= byte { byte <= b'9' } else { false }
-}
-
-fn positive(size: u32) -> i32
-    requires { size ≤ most_positive }
-    ensures { result ≡ pos size }
-{
-    size as i32
-}
-
-fn negative(size: u32) -> i32
-    requires { (0 < size) × (size ≤ most_negative) }
-    ensures { result ≡ negsuc (size - 1) }
-{
-    (0 - (size as i64)) as i32
-}
-
-impl Cursor {
-    pub fn byte(self, text: &[u8], wanted: u8) -> Place
-        ensures { result ≡ place_of text.now (read_byte wanted (drop self.at text.now)) }
+impl Cursor<'_> {
+    #[tactic(auto, unfolding(crate::specs::Reading::read_byte))]
+    pub fn byte(&mut self, wanted: u8) -> Option<()>
+        ensures { Reads result self.new.rest.now (read_byte wanted self.old.rest.now) }
     {
-        let at = self.at;
-        if at < text.len() {
-            if text[at] == wanted {
-                return Place::After(Cursor { at: at + 1 });
-            }
+        let (byte, rest) = self.rest.split_first()?;
+        if *byte != wanted {
+            return None;
         }
-        Place::Nowhere
+        self.rest = rest;
+        Some(())
     }
 
-    fn digits(self, text: &[u8], limit: u32, end: u8) -> Field
-        ensures { result ≡ field_of text.now (read_digits limit end 0 (drop self.at text.now)) }
+    #[tactic(auto, unfolding(crate::specs::Reading::read_digits))]
+    fn digits(&mut self, limit: u32, end: u8) -> Option<u32>
+        ensures value { Reads result self.new.rest.now (read_digits limit end 0 self.old.rest.now) }
+        ensures small { IfSome result (λ n. n ≤ limit) }
     {
-        let mut at = self.at;
+        let text = self.rest;
         let mut value = 0u32;
-        while at < text.len() {
-            let byte = text[at];
-            if byte == end {
-                return Field::Value(value, Cursor { at: at + 1 });
+        for (place, byte) in text.iter().enumerate() {
+            if *byte == end {
+                self.rest = &text[place + 1..];
+                return Some(value);
             }
-            if !is_digit(byte) {
-                return Field::NoField;
+            if !byte.is_ascii_digit() {
+                return None;
             }
-            let next = (value as u64) * 10 + ((byte - b'0') as u64);
-            if (limit as u64) < next {
-                return Field::NoField;
+            let next = u64::from(value) * 10 + u64::from(*byte - b'0');
+            if u64::from(limit) < next {
+                return None;
             }
             value = next as u32;
-            at += 1;
         }
-        Field::NoField
+        None
     }
 
     // A number of at most `limit` and the byte `end` after it.
-    pub fn number(self, text: &[u8], limit: u32, end: u8) -> Field
-        ensures { result ≡ field_of text.now (read_number limit end (drop self.at text.now)) }
+    #[tactic(auto, unfolding(crate::specs::Reading::read_number))]
+    pub fn number(&mut self, limit: u32, end: u8) -> Option<u32>
+        ensures value { Reads result self.new.rest.now (read_number limit end self.old.rest.now) }
+        ensures small { IfSome result (λ n. n ≤ limit) }
     {
-        let at = self.at;
-        if text.len() <= at {
-            return Field::NoField;
+        let (first, rest) = self.rest.split_first()?;
+        if *first == b'0' {
+            self.rest = rest;
+            self.byte(end)?;
+            return Some(0);
         }
-        let first = text[at];
-        if first == b'0' {
-            let after = Cursor { at: at + 1 };
-            let Place::After(next) = after.byte(text, end) else {
-                return Field::NoField;
-            };
-            return Field::Value(0, next);
+        if *first == end {
+            return None;
         }
-        if first == end {
-            return Field::NoField;
-        }
-        self.digits(text, limit, end)
+        self.digits(limit, end)
     }
 
-    // What follows a minus.
-    fn negative_number(self, text: &[u8], end: u8) -> SignedField
-        ensures { result ≡ signed_of text.now (read_negative end (drop self.at text.now)) }
+    // What follows a minus, which is not 0.
+    #[tactic(auto, unfolding(crate::specs::Reading::read_negative))]
+    fn negative_number(&mut self, end: u8) -> Option<i32>
+        ensures { Reads result self.new.rest.now (read_negative end self.old.rest.now) }
     {
-        let Field::Value(size, next) = self.number(text, MOST_NEGATIVE, end) else {
-            return SignedField::NoField;
-        };
+        let size = self.number(MOST_NEGATIVE, end)?;
         if size == 0 {
-            return SignedField::NoField;
+            return None;
         }
-        SignedField::Value(negative(size), next)
+        0i32.checked_sub_unsigned(size)
     }
 
     // A signed 32-bit number and the byte `end` after it.
-    pub fn signed(self, text: &[u8], end: u8) -> SignedField
-        ensures { result ≡ signed_of text.now (read_signed end (drop self.at text.now)) }
+    #[tactic(auto, unfolding(crate::specs::Reading::read_signed))]
+    pub fn signed(&mut self, end: u8) -> Option<i32>
+        ensures { Reads result self.new.rest.now (read_signed end self.old.rest.now) }
     {
-        let at = self.at;
-        if text.len() <= at {
-            return SignedField::NoField;
+        let (first, rest) = self.rest.split_first()?;
+        if *first == b'-' {
+            self.rest = rest;
+            return self.negative_number(end);
         }
-        if text[at] == b'-' {
-            return Cursor { at: at + 1 }.negative_number(text, end);
-        }
-        let Field::Value(size, next) = self.number(text, MOST_POSITIVE, end) else {
-            return SignedField::NoField;
-        };
-        SignedField::Value(positive(size), next)
+        let size = self.number(MOST_POSITIVE, end)?;
+        i32::try_from(size).ok()
     }
 }

@@ -2,7 +2,7 @@
 pub mod Loops
 pub mod Numerals
 pub mod Buffers
+pub mod Printing
 pub mod Divisors
-pub mod Writing
 pub mod Theorems
 pub mod Cases

@@ -2,7 +2,7 @@
 use mathlib.Core.Path.{◌≡◌, refl, ◌∙◌}
 use mathlib.Core.Bool.{Bool, true, false}
 use mathlib.Core.List.{List, [], ◌∷◌, ◌++◌}
-use Prim.Native.Nat.{ℕ, zero, suc, ◌+◌, ◌*◌, ◌/◌, ◌%◌, ◌^◌, ◌≤◌, ◌<◌}
+use Prim.Native.Nat.{ℕ, zero, suc, ◌+◌, ◌*◌, ◌/◌, ◌%◌, ◌^◌, ◌≤◌, ◌<◌, max}
 use native.Mathlib.Nat.{pow-suc, div-lt_iff_lt-mul}
 use native.Mathlib.Omega.{arith}
 use borrow.Author.Tests.{lt-ltb, le-ltb, ltb-true, ltb-false}
@@ -78,26 +78,33 @@ short (suc k) n h = go (ltb n 10) refl (short k (n / 10))
         let front = r ((div-lt_iff_lt-mul (omega arith)).1 (rw (pow-suc 10 (suc k)) at h)) in
         rw (last_digit n (ltb-false n 10 e), length-append) (omega arith)
 
--- the places that are left of a number once its last ones are gone: none where 0 is left
-abbrev pub places : ℕ → ℕ
-places zero = 0
-places (suc m) = length (numeral (suc m))
+power_some : (k : ℕ) → 0 < 10 ^ k
+power_some zero = omega arith
+power_some (suc k) = let power : 10 ^ suc k ≡ 10 ^ k * 10 = pow-suc 10 k in let some = power_some k in omega arith
 
-places_some : (n : ℕ) → 0 < n → places n ≡ length (numeral n)
-places_some zero h = absurd (omega arith)
-places_some (suc n) h = refl
+-- and as many at least where the power is not above it
+long : (k n : ℕ) → 10 ^ k ≤ n → suc k ≤ length (numeral n)
+long zero n h = numeral_long n
+long (suc k) n h =
+    let power : 10 ^ suc k ≡ 10 ^ k * 10 = pow-suc 10 k in
+    let some = power_some k in
+    let front : 10 ^ k ≤ n / 10 = omega arith in
+    let shorter = long k (n / 10) front in
+    rw (last_digit n (omega arith), length-append) (omega arith)
 
-pub places_less : (n : ℕ) → length (numeral n) ≡ 1 + places (n / 10)
-places_less n = go (ltb n 10) refl
+-- 0 has one digit, as 1 has
+pub counted : (n k : ℕ) → 10 ^ k ≤ max n 1 → max n 1 < 10 * 10 ^ k → k + 1 ≡ length (numeral n)
+counted zero k h l = go k h
   where
-    go : (b : Bool) → ltb n 10 ≡ b → length (numeral n) ≡ 1 + places (n / 10)
-    go true e = let none : n / 10 ≡ 0 = omega (arith, ltb-true n 10 e) in rw (one_digit n (ltb-true n 10 e), none)
-    go false e =
-        let big = ltb-false n 10 e in
-        rw (last_digit n big, places_some (n / 10) (omega arith), length-append) (omega arith)
-
-pub places_on : (n : ℕ) → 0 < n → places n ≡ 1 + places (n / 10)
-places_on n h = places_some n h ∙ places_less n
+    go : (k : ℕ) → 10 ^ k ≤ 1 → k + 1 ≡ length (numeral 0)
+    go zero h = rw (one_digit 0 (omega arith)) refl
+    go (suc k) h = let power : 10 ^ suc k ≡ 10 ^ k * 10 = pow-suc 10 k in let some = power_some k in absurd (omega arith)
+counted (suc n) k h l =
+    let same : max (suc n) 1 ≡ suc n = omega arith in
+    let power : 10 ^ suc k ≡ 10 ^ k * 10 = pow-suc 10 k in
+    let low : suc k ≤ length (numeral (suc n)) = long k (suc n) (omega arith) in
+    let high : length (numeral (suc n)) ≤ suc k = short k (suc n) (omega arith) in
+    omega arith
 
 -- the last k digits of n
 abbrev pub lowest : ℕ → ℕ → List ℕ

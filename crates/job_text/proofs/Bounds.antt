@@ -11,8 +11,6 @@ use Rattle.limits.specs.Limits.{largest_pixel, longest_side, side_in_range}
 use Rattle.limits.specs.Errors.{number_of, first_refusal}
 use Rattle.limits.specs.declared.ErrorCode.{ErrorCode}
 use Rattle.limits.specs.declared.ErrorCode.TheVariants.{TextIsNoJob, RecordOutOfOrder, VarianceOutOfRange, NotADirection, StepsOutOfRange, SideOutOfRange, NoSuchJob, StepsAreLeft, WrongLength, TooManyPixels, NoKernel, NoFreeBuffers, NumbersUsedUp, CannotGoBack}
-use Rattle.limits.specs.declared.Outcome.{Outcome}
-use Rattle.limits.specs.declared.Outcome.TheVariants.{Accepted, Refused}
 use Rattle.limits.proofs.Laws.{both_true, in_range_lem}
 use Rattle.kernel.specs.Offsets.{Offset, offsets, sum_over, total}
 use Rattle.kernel.specs.Sound.{Sound}
@@ -35,6 +33,8 @@ use Rattle.job_parser.proofs.Parsing.{text_parsed}
 use Rattle.job_parser.proofs.Rows.{small_front, small_back}
 use Rattle.job_parser.proofs.Bounds.{split, picture_fits}
 use Rattle.job_text.specs.Answer.{job_checks, job_kernel, result_text, refusal_or, job_answer, answer_to, answer_text, most_bytes}
+use Rattle.limits.specs.Errors.{Outcome}
+use Rattle.std.specs.Prelude.{Ok, Err}
 
 -- numbers below a power of ten, each with what ends its field
 line_most : (k : ℕ) (ns : List ℕ) (m : ℕ) → EachAtMost m ns → m < 10 ^ suc k → length (line (map numeral ns)) ≤ suc (suc k) * length ns
@@ -125,13 +125,13 @@ picture_most w h pixels wide high count small =
 
 -- the job's own checks
 module _ (job : Job) (types : InTypes N job) (count : length job.pixels ≤ most_pixels) where
-  result_most : first_refusal (job_checks job.header) ≡ Accepted → length (result_text job.header job.pixels) ≤ most_bytes
+  result_most : first_refusal (job_checks job.header) ≡ Ok tt → length (result_text job.header job.pixels) ≤ most_bytes
   result_most e =
       let h = job.header in
       let kernel = job_kernel h in
       let holds = all_hold (job_checks h) e in
       let sides = both_true (side_in_range h.width) (side_in_range h.height) holds.1.0 in
-      let good = sound_by h.choice h.xx h.xy h.yy h.steps holds.0 holds.1.1.0 in
+      let good = sound_by h.choice h.covariance.xx h.covariance.xy h.covariance.yy h.steps holds.0 holds.1.1.0 in
       let after = steps_of kernel h.width h.height h.steps job.pixels in
       let long : length after ≡ h.width * h.height = length_steps kernel h.width h.height job.pixels types.count h.steps in
       let small = each_most largest_pixel after (λ i l. stays_pixel kernel h.steps good h.width h.height job.pixels types.count (at_most largest_pixel job.pixels types.pixels) h.steps i (rw long at l)) in
@@ -143,8 +143,8 @@ module _ (job : Job) (types : InTypes N job) (count : length job.pixels ≤ most
   answer_most = go (first_refusal (job_checks job.header)) refl
     where
       go : (o : Outcome) → first_refusal (job_checks job.header) ≡ o → length (refusal_or o (result_text job.header job.pixels)) ≤ most_bytes
-      go Accepted e = result_most e
-      go (Refused code) e = refusal_most code
+      go (Ok done) e = result_most e
+      go (Err code) e = refusal_most code
 
 -- NO ANSWER IS LONGER
 pub answer_short : (text : List ℕ) → length (answer_text text) ≤ most_bytes

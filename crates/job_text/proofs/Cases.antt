@@ -16,8 +16,8 @@ use Rattle.job_printer.specs.Divisors.{divisor_within, common_divisor}
 use Rattle.job_printer.specs.Text.{bytes}
 use Rattle.job_parser.specs.Reading.{read_byte, read_digits, read_number, read_negative, read_signed, read_letter, read_choice, read_row, read_rows}
 use Rattle.job_parser.specs.Parsing.{read_entries, read_sizes, read_header, read_job, parse}
-use Rattle.job_text.specs.declared.Printed.{Printed}
-use Rattle.job_text.specs.declared.Printed.TheVariants as printed
+use Rattle.std.specs.Prelude.{Result, Ok, Err}
+use Rattle.limits.specs.declared.ErrorCode.{ErrorCode}
 use Rattle.job_text.specs.Answer.{printed_number, printed_values, job_answer, answer_text, most_bytes, answered}
 
 -- ---- from row to row the first fault of the row before is mended; the last has no kernel, as case d of REFERENCE
@@ -54,14 +54,14 @@ unfolding bytes kernel_with kernel_exists iterate step_of weighted_at rows entri
 smoothed = refl
 
 -- ---- the answers of the call: their numbers and values
-abbrev pub answers : List (Printed × ℕ × List ℕ)
-answers = (printed.Bytes 54, 0, 54 ∷ []) ∷ (printed.Refused WrongLength, 9, []) ∷ []
+abbrev pub answers : List (Result ℕ ErrorCode × ℕ × List ℕ)
+answers = (Ok 54, 0, 54 ∷ []) ∷ (Err WrongLength, 9, []) ∷ []
 
 pub numbered : map (λ row. (row.0, printed_number row.0, printed_values row.0)) answers ≡ answers
 numbered = refl
 
 -- a buffer of two bytes is refused with 9, and kept: an answer can have 49,240 bytes, 6 for each of 8,191 pixels and 94
-pub short_buffer : answered (bytes "J") (7 ∷ 8 ∷ []) ≡ record { answer = printed.Refused WrongLength; out = 7 ∷ 8 ∷ [] }
+pub short_buffer : answered (bytes "J") (7 ∷ 8 ∷ []) ≡ record { answer = Err WrongLength; out = 7 ∷ 8 ∷ [] }
 unfolding answered
 short_buffer = refl
 

@@ -10,7 +10,6 @@ use native.Mathlib.Omega.{arith}
 use lib.ListN.{length, get_or}
 use Rattle.limits.specs.Limits.{steps_in_range, sides_in_range}
 use Rattle.limits.specs.Errors.{unless}
-use Rattle.limits.specs.declared.Outcome.TheVariants.{Accepted, Refused}
 use Rattle.limits.specs.declared.ErrorCode.TheVariants.{TextIsNoJob, StepsOutOfRange, SideOutOfRange, NoKernel}
 use Rattle.kernel.specs.Molecule.{units_of}
 use Rattle.kernel.specs.Existence.{kernel_exists}
@@ -24,10 +23,11 @@ use Rattle.job_parser.proofs.Parsing.{parse_text, text_parsed}
 use Rattle.job_parser.proofs.Theorems.{one_format}
 use Rattle.job_text.specs.Answer.{refusal_or, result_text, job_answer, answer_text, most_bytes}
 use Rattle.job_text.proofs.Bounds.{answer_short}
+use Rattle.std.specs.Prelude.{Ok, Err}
 
 -- no answer to a job is refusal 1: its third byte is another digit, or its first another letter
 other_answer : (steps sides kernel : Bool) (result : List ℕ)
-    → refusal_or (unless steps (Refused StepsOutOfRange) (unless sides (Refused SideOutOfRange) (unless kernel (Refused NoKernel) Accepted))) result ≡ refusal_text TextIsNoJob
+    → refusal_or (unless steps (Err StepsOutOfRange) (unless sides (Err SideOutOfRange) (unless kernel (Err NoKernel) (Ok tt)))) result ≡ refusal_text TextIsNoJob
     → get_or result 0 0 ≡ 75 → ⊥
 unfolding line numeral numeral_within
 other_answer false sides kernel result e k = let third = ap (λ text. get_or text 2 0) e in omega arith
@@ -48,7 +48,7 @@ refused_exactly text = (only, λ none_is. always none_is (parse N text) refl)
     only e job is =
         let h = job.header in
         let printed : job_answer h job.pixels ≡ refusal_text TextIsNoJob = rw (parse_text N text job is) at e in
-        other_answer (steps_in_range h.steps) (sides_in_range h.width h.height) (kernel_exists h.xx h.xy h.yy (units_of h.steps))
+        other_answer (steps_in_range h.steps) (sides_in_range h.width h.height) (kernel_exists h.covariance.xx h.covariance.xy h.covariance.yy (units_of h.steps))
         (result_text h job.pixels) printed (begins_with_k job)
 
     always : ((job : Job) → IsText N text job → ⊥) → (o : Option Job) → parse N text ≡ o → answer_text text ≡ refusal_text TextIsNoJob

@@ -1,2 +1,3 @@
 -- The answer to a job text.
 pub mod Answer
+pub mod Shape

@@ -1,6 +1,6 @@
 -- What the kernel call answers, once the signs are off: the existence test and the nine weights in naturals. Assumes
 -- nothing.
-use mathlib.Core.Path.{◌≡◌, refl, sym, ap, ◌∙◌}
+use mathlib.Core.Path.{◌≡◌, ap, ◌∙◌}
 use mathlib.Core.Bool.{true, false, true≢false}
 use mathlib.Core.List.{List, [], ◌∷◌, map}
 use Prim.Native.Nat.{ℕ, ◌+◌, ◌-◌, ◌*◌, ◌≤◌, ◌<◌, min, max}
@@ -11,55 +11,33 @@ use lib.Dec.{leb}
 use lib.IntN.{ℤ, pos, negsuc, nat_abs}
 use lib.Signed.{lt_z}
 use Rattle.limits.specs.Limits.{steps_in_range}
-use Rattle.limits.specs.Errors.{◌otherwise◌}
-use Rattle.limits.specs.declared.Outcome.{Outcome}
-use Rattle.limits.specs.declared.Outcome.TheVariants.{Accepted, Refused}
-use Rattle.limits.specs.declared.ErrorCode.{ErrorCode}
+use Rattle.limits.specs.Errors.{◌otherwise◌, answer_with}
 use Rattle.limits.specs.declared.ErrorCode.TheVariants.{StepsOutOfRange, NoKernel}
-use Rattle.limits.proofs.Checks.{all_hold}
-use Rattle.kernel.specs.declared.FreeAnswer.{FreeAnswer}
+use Rattle.limits.proofs.Checks.{all_hold, accepted_alone}
 use Rattle.kernel.specs.declared.Choice.{Choice}
 use Rattle.kernel.specs.Molecule.{units_of, sum_of, kernel_with}
-use Rattle.kernel.specs.Choice.{free_by, kernel_by}
+use Rattle.kernel.specs.Choice.{free_by}
 use Rattle.kernel.specs.Existence.{kernel_exists}
-use Rattle.kernel.specs.Answer.{no_kernel, answer_with, kernel_checks, kernel_answer, free_with, free_answer}
+use Rattle.kernel.specs.Answer.{kernel_checks}
 use Rattle.kernel.proofs.Plain.{unsigned, exists_plain, none_x, none_y, plain, Between, weights}
+use Rattle.std.specs.Prelude.{Ok, Err}
 
-pub absent : (choice : Choice) (x z y : ℤ) (k : ℕ) → steps_in_range k ≡ true → kernel_exists x z y (units_of k) ≡ false
-    → kernel_answer choice x z y k ≡ record { outcome = Refused NoKernel; kernel = no_kernel }
-absent choice x z y k s e = rw (s, e)
+-- the kernel and the free number alone pass the same checks
+pub absent : {A : Type 0} (value : A) (x z y : ℤ) (k : ℕ) → steps_in_range k ≡ true → kernel_exists x z y (units_of k) ≡ false
+    → answer_with (kernel_checks x z y k) value ≡ Err NoKernel
+absent value x z y k s e = rw (s, e)
 
-pub present : (choice : Choice) (x z y : ℤ) (k : ℕ) → steps_in_range k ≡ true → kernel_exists x z y (units_of k) ≡ true
-    → kernel_answer choice x z y k ≡ record { outcome = Accepted; kernel = kernel_by choice x z y k }
-present choice x z y k s e = rw (s, e)
+pub present : {A : Type 0} (value : A) (x z y : ℤ) (k : ℕ) → steps_in_range k ≡ true → kernel_exists x z y (units_of k) ≡ true
+    → answer_with (kernel_checks x z y k) value ≡ Ok value
+present value x z y k s e = rw (s, e)
 
--- and of the free number alone
-pub free_absent : (choice : Choice) (x z y : ℤ) (k : ℕ) → steps_in_range k ≡ true → kernel_exists x z y (units_of k) ≡ false
-    → free_answer choice x z y k ≡ record { outcome = Refused NoKernel; free = 0 }
-free_absent choice x z y k s e = rw (s, e)
-
-pub free_present : (choice : Choice) (x z y : ℤ) (k : ℕ) → steps_in_range k ≡ true → kernel_exists x z y (units_of k) ≡ true
-    → free_answer choice x z y k ≡ record { outcome = Accepted; free = free_by choice x z y k }
-free_present choice x z y k s e = rw (s, e)
-
-pub free_outcome : (o : Outcome) (f : ℕ) → (free_with o f).outcome ≡ o
-free_outcome Accepted f = refl
-free_outcome (Refused code) f = refl
-
--- an accepted answer passed both checks, and holds the free number; one that is refused is refused with the same code where the
--- kernel is asked for
-pub free_accepted : (choice : Choice) (x z y : ℤ) (k : ℕ) (answer : FreeAnswer) → answer ≡ free_answer choice x z y k → answer.outcome ≡ Accepted
-    → (steps_in_range k ≡ true) × (kernel_exists x z y (units_of k) ≡ true) × (answer.free ≡ free_by choice x z y k)
-free_accepted choice x z y k answer is e =
-    let h =
-    all_hold ((steps_in_range k otherwise StepsOutOfRange) ∷ (kernel_exists x z y (units_of k) otherwise NoKernel) ∷ [])
-    (sym (ap (λ a. a.outcome) is ∙ free_outcome (kernel_checks x z y k) (free_by choice x z y k)) ∙ e) in
-    (h.0, h.1.0, ap (λ a. a.free) (is ∙ free_present choice x z y k h.0 h.1.0))
-
-pub free_refused : (choice : Choice) (x z y : ℤ) (k : ℕ) (answer : FreeAnswer) (code : ErrorCode) → answer ≡ free_answer choice x z y k
-    → answer.outcome ≡ Refused code → kernel_answer choice x z y k ≡ record { outcome = Refused code; kernel = no_kernel }
-free_refused choice x z y k answer code is e =
-    ap (λ o. answer_with o (kernel_by choice x z y k)) (sym (ap (λ a. a.outcome) is ∙ free_outcome (kernel_checks x z y k) (free_by choice x z y k)) ∙ e)
+-- an answer that is no refusal passed both checks, and is the value
+pub answered : {A : Type 0} (value answer : A) (x z y : ℤ) (k : ℕ) → answer_with (kernel_checks x z y k) value ≡ Ok answer
+    → (steps_in_range k ≡ true) × (kernel_exists x z y (units_of k) ≡ true) × (answer ≡ value)
+answered value answer x z y k e =
+    let t = accepted_alone (kernel_checks x z y k) value answer e in
+    let h = all_hold ((steps_in_range k otherwise StepsOutOfRange) ∷ (kernel_exists x z y (units_of k) otherwise NoKernel) ∷ []) t.0 in
+    (h.0, h.1.0, t.1)
 
 pub negative_x : (x z y : ℤ) (m : ℕ) → lt_z x (pos 0) ≡ true → kernel_exists x z y m ≡ false
 negative_x (pos a) z y m h = let g = ltb-true a 0 h in absurd (omega arith)
@@ -81,14 +59,11 @@ test (negsuc a) z (pos b) m h g = absurd (true≢false h)
 test (negsuc a) z (negsuc b) m h g = absurd (true≢false h)
 
 module _ (x z y : ℤ) (m : ℕ) (h : lt_z x (pos 0) ≡ false) (g : lt_z y (pos 0) ≡ false) where
-  pub too_large_x : nat_abs x < smallest_of x z y m → kernel_exists x z y m ≡ false
-  too_large_x l = test x z y m h g ∙ lt-leb (smallest_of x z y m) (min (nat_abs x) (nat_abs y)) (omega arith)
+  pub too_large : min (nat_abs x) (nat_abs y) < smallest_of x z y m → kernel_exists x z y m ≡ false
+  too_large l = test x z y m h g ∙ lt-leb (smallest_of x z y m) (min (nat_abs x) (nat_abs y)) l
 
-  pub too_large_y : nat_abs y < smallest_of x z y m → kernel_exists x z y m ≡ false
-  too_large_y l = test x z y m h g ∙ lt-leb (smallest_of x z y m) (min (nat_abs x) (nat_abs y)) (omega arith)
-
-  pub fits : smallest_of x z y m ≤ nat_abs x → smallest_of x z y m ≤ nat_abs y → kernel_exists x z y m ≡ true
-  fits l r = test x z y m h g ∙ le-leb (smallest_of x z y m) (min (nat_abs x) (nat_abs y)) (omega arith)
+  pub fits : smallest_of x z y m ≤ min (nat_abs x) (nat_abs y) → kernel_exists x z y m ≡ true
+  fits l = test x z y m h g ∙ le-leb (smallest_of x z y m) (min (nat_abs x) (nat_abs y)) l
 
 -- the kernel of a free number between the bounds, in naturals
 pub made_with : (a : ℕ) (z : ℤ) (b n k : ℕ) → Between a (nat_abs z) b n (units_of k)

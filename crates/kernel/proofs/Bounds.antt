@@ -1,13 +1,13 @@
 -- The free numbers between the two bounds that make all weights nonnegative: those of the choices lie there, each of them has a sound
 -- kernel, and they are exactly those whose molecule has no negative weight. Assumes nothing.
 use mathlib.Core.Path.{◌≡◌, refl, sym, ap, ap₂, ◌∙◌, subst}
-use mathlib.Core.Bool.{Bool, true, false, not, ◌&&◌, true≢false}
+use mathlib.Core.Bool.{Bool, true, false, ◌&&◌, true≢false}
 use mathlib.Core.Logic.{◌↔◌}
 use mathlib.Core.List.{List, [], ◌∷◌, map}
 use Prim.Native.Nat.{ℕ, ◌+◌, ◌-◌, ◌*◌, ◌≤◌, min, max}
 use native.Mathlib.Omega.{arith}
 use borrow.Author.Tests.{ltb-true, le-leb, leb-true}
-use lib.Dec.{leb, ltb}
+use lib.Dec.{leb}
 use lib.IntN.{ℤ, pos, negsuc, nat_abs, ◌+ℤ◌, ◌-ℤ◌, ◌*ℤ◌}
 use lib.Signed.{◌≤ℤ◌, le_z, lt_z}
 use Rattle.limits.specs.Limits.{steps_in_range, most_steps}
@@ -44,27 +44,19 @@ fits_none_y b xx xy f m =
     ap (λ t. le_z (free_number xx xy (negsuc b) m) (pos f) && t) (no_negative_y f b xx) ∙ and_false (le_z (free_number xx xy (negsuc b) m) (pos f))
 
 -- the test of a covariance whose signs are off, as the code makes it
-fits_negative_x : (x z y : ℤ) (f m : ℕ) → lt_z x (pos 0) ≡ true → free_fits x z y f m ≡ false
+pub fits_negative_x : (x z y : ℤ) (f m : ℕ) → lt_z x (pos 0) ≡ true → free_fits x z y f m ≡ false
 fits_negative_x (pos a) z y f m h = let g = ltb-true a 0 h in absurd (omega arith)
 fits_negative_x (negsuc a) z y f m h = fits_none_x a z y f m
 
-fits_negative_y : (x z y : ℤ) (f m : ℕ) → lt_z y (pos 0) ≡ true → free_fits x z y f m ≡ false
+pub fits_negative_y : (x z y : ℤ) (f m : ℕ) → lt_z y (pos 0) ≡ true → free_fits x z y f m ≡ false
 fits_negative_y x z (pos b) f m h = let g = ltb-true b 0 h in absurd (omega arith)
 fits_negative_y x z (negsuc b) f m h = fits_none_y b x z f m
 
-pub fits_sign : (x z y : ℤ) (f m : ℕ) → not (lt_z x (pos 0)) && not (lt_z y (pos 0)) ≡ false → free_fits x z y f m ≡ false
-fits_sign x z y f m h = go (lt_z x (pos 0)) refl (lt_z y (pos 0)) refl h
-  where
-    go : (s : Bool) → lt_z x (pos 0) ≡ s → (t : Bool) → lt_z y (pos 0) ≡ t → not s && not t ≡ false → free_fits x z y f m ≡ false
-    go true p t q e = fits_negative_x x z y f m p
-    go false p true q e = fits_negative_y x z y f m q
-    go false p false q e = absurd (true≢false e)
-
-pub fits_test : (x z y : ℤ) (f m : ℕ) → not (lt_z x (pos 0)) && not (lt_z y (pos 0)) ≡ true
+pub fits_test : (x z y : ℤ) (f m : ℕ) → lt_z x (pos 0) ≡ false → lt_z y (pos 0) ≡ false
     → free_fits x z y f m ≡ leb (smallest_of x z y m) f && leb f (min (nat_abs x) (nat_abs y))
-fits_test (pos a) z (pos b) f m h = fits_plain a z b f m
-fits_test (pos a) z (negsuc b) f m h = absurd (true≢false (sym (both_true (not (ltb a 0)) false h).1))
-fits_test (negsuc a) z y f m h = absurd (true≢false (sym h))
+fits_test (pos a) z (pos b) f m g h = fits_plain a z b f m
+fits_test (pos a) z (negsuc b) f m g h = absurd (true≢false h)
+fits_test (negsuc a) z y f m g h = absurd (true≢false g)
 
 pub fits_between : (a : ℕ) (xy : ℤ) (b f m : ℕ) → free_fits (pos a) xy (pos b) f m ≡ true → Between a (nat_abs xy) b f m
 fits_between a xy b f m h =

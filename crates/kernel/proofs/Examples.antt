@@ -10,10 +10,8 @@ use lib.Dec.{eqb, ltb}
 use lib.ListN.{length}
 use lib.IntN.{ℤ, pos, negsuc, ◌*ℤ◌}
 use borrow.Author.Tests.{eqb-true, eq-eqb, ltb-true, lt-ltb}
-use Rattle.kernel.specs.declared.Magnitude.{Magnitude}
-use Rattle.kernel.specs.Offsets.{minus_one, total, moment}
+use Rattle.kernel.specs.Offsets.{total, moment}
 use Rattle.kernel.specs.Existence.{Weights}
-use Rattle.kernel.specs.Answer.{magnitude_of}
 
 -- ---- the conditions of `Weights`, each as a test that computes
 pub data Condition : Type 0 where
@@ -148,19 +146,3 @@ weights_exactly xx xy yy m ws = (λ w. subst (λ ws. failing xx xy yy m ws ≡ [
           },
           refl,
         )
-
--- ---- a signed number taken apart
-abbrev pub magnitude : ℕ → Bool → Magnitude
-magnitude size negative = record { size = size; negative = negative }
-
-abbrev pub magnitudes : List (ℤ × Magnitude)
-magnitudes =
-    (pos 0, magnitude 0 false)
-    ∷ (pos 1, magnitude 1 false)
-    ∷ (minus_one, magnitude 1 true)
-    ∷ (pos 2147483647, magnitude 2147483647 false)
-    ∷ (negsuc 2147483647, magnitude 2147483648 true)
-    ∷ []
-
-pub taken_apart : map (λ row. magnitude_of row.0) magnitudes ≡ map (λ row. row.1) magnitudes
-taken_apart = refl

@@ -14,7 +14,6 @@ use lib.ListN.{length}
 use lib.IntN.{ℤ, pos, negsuc, nat_abs, ◌-ℤ◌, ◌*ℤ◌}
 use lib.Signed.{◌≤ℤ◌, ◌<ℤ◌, le_z_yes, lt_z_yes}
 use Rattle.limits.specs.Limits.{steps_in_range, most_steps}
-use Rattle.limits.specs.declared.Outcome.TheVariants.{Refused}
 use Rattle.limits.specs.declared.ErrorCode.TheVariants.{NoKernel}
 use Rattle.limits.proofs.Laws.{in_range_lem}
 use Rattle.limits.proofs.Checks.{refused_not_accepted}
@@ -26,11 +25,13 @@ use Rattle.kernel.specs.Molecule.{units_of, sum_of, molecule, kernel_with, kerne
 use Rattle.kernel.specs.Choice.{kernel_by}
 use Rattle.kernel.specs.Existence.{kernel_exists, Weights}
 use Rattle.kernel.specs.Sound.{Sound}
-use Rattle.kernel.specs.Answer.{answer_with, kernel_checks, kernel_answer}
+use Rattle.kernel.specs.Answer.{kernel_checks, kernel_answer}
+use Rattle.limits.specs.Errors.{answer_with}
 use Rattle.kernel.proofs.Signs.{plus, minus, equal, parts}
 use Rattle.kernel.proofs.Moments.{split, every, mono, constant, second, second_of}
 use Rattle.kernel.proofs.Answers.{absent, present, made_with}
 use Rattle.kernel.proofs.Plain.{free_of, free_by_lem, exists_plain, none_x, none_y, plain, Between, between_by, plus_le, minus_le, weights}
+use Rattle.std.specs.Prelude.{Err}
 
 -- ---- the order of signed numbers that are not negative
 pub is_le : {a b : ℕ} → a ≤ b → pos a ≤ℤ pos b
@@ -262,11 +263,11 @@ absent_exactly xx xy yy k s = (
 
 -- and so refusal 11 is answered exactly there, for each choice
 pub refused_exactly : (choice : Choice) (xx xy yy : ℤ) (k : ℕ) → steps_in_range k ≡ true
-    → ((kernel_answer choice xx xy yy k).outcome ≡ Refused NoKernel) ↔ (Weights xx xy yy (units_of k) → ⊥)
-refused_exactly choice xx xy yy k s = (only, λ none. ap (λ a. a.outcome) (absent choice xx xy yy k s ((absent_exactly xx xy yy k s).1 none)))
+    → (kernel_answer choice xx xy yy k ≡ Err NoKernel) ↔ (Weights xx xy yy (units_of k) → ⊥)
+refused_exactly choice xx xy yy k s = (only, λ none. absent (kernel_by choice xx xy yy k) xx xy yy k s ((absent_exactly xx xy yy k s).1 none))
   where
-    only : (kernel_answer choice xx xy yy k).outcome ≡ Refused NoKernel → Weights xx xy yy (units_of k) → ⊥
-    only r w = refused_not_accepted (sym r ∙ ap (λ a. a.outcome) (present choice xx xy yy k s (needed xx xy yy (units_of k) w)))
+    only : kernel_answer choice xx xy yy k ≡ Err NoKernel → Weights xx xy yy (units_of k) → ⊥
+    only r w = refused_not_accepted (sym r ∙ present (kernel_by choice xx xy yy k) xx xy yy k s (needed xx xy yy (units_of k) w))
 
 -- "A caller who needs the earlier f names the choice "smallest"": the call then answers what it answered before
 pub as_before : (xx xy yy : ℤ) (k : ℕ) → kernel_answer Smallest xx xy yy k ≡ answer_with (kernel_checks xx xy yy k) (kernel_of xx xy yy k)

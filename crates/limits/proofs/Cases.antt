@@ -5,11 +5,10 @@ use mathlib.Core.Bool.{Bool, true, false}
 use mathlib.Core.List.{List, [], ◌∷◌, map}
 use Prim.Native.Nat.{ℕ}
 use Rattle.limits.specs.Limits.{units_per_square_pixel, largest_pixel, most_steps, longest_side, buffer_pixels, within_of, steps_in_range, sides_in_range, fills_picture, fits_buffer}
-use Rattle.limits.specs.Errors.{number_of, outcome_number, Check, ◌otherwise◌, first_refusal, value_or, held_after}
+use Rattle.limits.specs.Errors.{number_of, outcome_number, Check, ◌otherwise◌, first_refusal, value_or, held_after, Outcome}
 use Rattle.limits.specs.declared.ErrorCode.{ErrorCode}
 use Rattle.limits.specs.declared.ErrorCode.TheVariants.{TextIsNoJob, RecordOutOfOrder, VarianceOutOfRange, NotADirection, StepsOutOfRange, SideOutOfRange, NoSuchJob, StepsAreLeft, WrongLength, TooManyPixels, NoKernel, NoFreeBuffers, NumbersUsedUp, CannotGoBack}
-use Rattle.limits.specs.declared.Outcome.{Outcome}
-use Rattle.limits.specs.declared.Outcome.TheVariants.{Accepted, Refused}
+use Rattle.std.specs.Prelude.{Ok, Err}
 
 -- ---- "Refusals in checking order", 1 to 14: each by itself, and as the answer of a call
 abbrev pub refusals : List (ErrorCode × ℕ)
@@ -47,7 +46,7 @@ refusals =
 pub numbered : map (λ row. number_of row.0) refusals ≡ map (λ row. row.1) refusals
 numbered = refl
 
-pub answered : outcome_number Accepted ∷ map (λ row. outcome_number (Refused row.0)) refusals ≡ 0 ∷ map (λ row. row.1) refusals
+pub answered : outcome_number (Ok tt) ∷ map (λ row. outcome_number (Err row.0)) refusals ≡ 0 ∷ map (λ row. row.1) refusals
 answered = refl
 
 -- ---- the limits: "in 1/4096 square pixel", "0 to 65535", "1 to 64", "1 to 1024", "16 buffers of 1024 pixels"
@@ -122,14 +121,14 @@ fitted = refl
 -- ---- checks, and what they come to: "in this order, and a refusal answers its number alone"
 abbrev pub checks : List (List Check × Outcome)
 checks =
-    ([], Accepted)
-    ∷ ((true otherwise StepsOutOfRange) ∷ [], Accepted)
-    ∷ ((false otherwise StepsOutOfRange) ∷ [], Refused StepsOutOfRange)
-    ∷ ((true otherwise StepsOutOfRange) ∷ (true otherwise NoKernel) ∷ [], Accepted)
-    ∷ ((true otherwise StepsOutOfRange) ∷ (false otherwise NoKernel) ∷ [], Refused NoKernel)
-    ∷ ((false otherwise StepsOutOfRange) ∷ (true otherwise NoKernel) ∷ [], Refused StepsOutOfRange)
-    ∷ ((false otherwise StepsOutOfRange) ∷ (false otherwise NoKernel) ∷ [], Refused StepsOutOfRange)
-    ∷ ((true otherwise StepsOutOfRange) ∷ (false otherwise SideOutOfRange) ∷ (false otherwise NoKernel) ∷ [], Refused SideOutOfRange)
+    ([], Ok tt)
+    ∷ ((true otherwise StepsOutOfRange) ∷ [], Ok tt)
+    ∷ ((false otherwise StepsOutOfRange) ∷ [], Err StepsOutOfRange)
+    ∷ ((true otherwise StepsOutOfRange) ∷ (true otherwise NoKernel) ∷ [], Ok tt)
+    ∷ ((true otherwise StepsOutOfRange) ∷ (false otherwise NoKernel) ∷ [], Err NoKernel)
+    ∷ ((false otherwise StepsOutOfRange) ∷ (true otherwise NoKernel) ∷ [], Err StepsOutOfRange)
+    ∷ ((false otherwise StepsOutOfRange) ∷ (false otherwise NoKernel) ∷ [], Err StepsOutOfRange)
+    ∷ ((true otherwise StepsOutOfRange) ∷ (false otherwise SideOutOfRange) ∷ (false otherwise NoKernel) ∷ [], Err SideOutOfRange)
     ∷ []
 
 pub checked : map (λ row. first_refusal row.0) checks ≡ map (λ row. row.1) checks
@@ -137,7 +136,7 @@ checked = refl
 
 -- ---- "every lent buffer keep their contents": an outcome, what was made, what a lent slice held before, and what it holds after
 abbrev pub slices : List (Outcome × List ℕ × List ℕ × List ℕ)
-slices = (Accepted, 1 ∷ 2 ∷ [], 3 ∷ 4 ∷ [], 1 ∷ 2 ∷ []) ∷ (Refused NoKernel, 1 ∷ 2 ∷ [], 3 ∷ 4 ∷ [], 3 ∷ 4 ∷ []) ∷ []
+slices = (Ok tt, 1 ∷ 2 ∷ [], 3 ∷ 4 ∷ [], 1 ∷ 2 ∷ []) ∷ (Err NoKernel, 1 ∷ 2 ∷ [], 3 ∷ 4 ∷ [], 3 ∷ 4 ∷ []) ∷ []
 
 pub kept : map (λ row. held_after row.0 row.1 row.2) slices ≡ map (λ row. row.3) slices
 kept = refl

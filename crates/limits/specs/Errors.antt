@@ -1,10 +1,8 @@
 -- docs/REFERENCE.md, "Refusals in checking order": the number of each error code, and the answer of a call that makes several
 -- checks. Definitions only.
-use Rattle.std.specs.Prelude.{ℕ, Bool, true, false, List, [], ◌∷◌}
+use Rattle.std.specs.Prelude.{ℕ, Bool, true, false, List, [], ◌∷◌, Result, Ok, Err}
 use Rattle.limits.specs.declared.ErrorCode.{ErrorCode}
 use Rattle.limits.specs.declared.ErrorCode.TheVariants.{TextIsNoJob, RecordOutOfOrder, VarianceOutOfRange, NotADirection, StepsOutOfRange, SideOutOfRange, NoSuchJob, StepsAreLeft, WrongLength, TooManyPixels, NoKernel, NoFreeBuffers, NumbersUsedUp, CannotGoBack}
-use Rattle.limits.specs.declared.Outcome.{Outcome}
-use Rattle.limits.specs.declared.Outcome.TheVariants.{Accepted, Refused}
 
 -- the number that REFERENCE gives each refusal
 abbrev pub number_of : ErrorCode → ℕ
@@ -23,10 +21,14 @@ number_of NoFreeBuffers = 12
 number_of NumbersUsedUp = 13
 number_of CannotGoBack = 14
 
+-- what a call answers where nothing else comes back: "an answer or one numbered refusal"
+abbrev pub Outcome : Type 0
+Outcome = Result Unit ErrorCode
+
 -- 0 for a call that was accepted
 abbrev pub outcome_number : Outcome → ℕ
-outcome_number Accepted = 0
-outcome_number (Refused code) = number_of code
+outcome_number (Ok done) = 0
+outcome_number (Err code) = number_of code
 
 -- one check: what has to hold, and the error code where it does not
 pub record Check : Type 0 where
@@ -43,8 +45,13 @@ unless false refused rest = refused
 
 -- "Each call checks those that concern it, in this order, and a refusal answers its number alone": the first that fails
 abbrev pub first_refusal : List Check → Outcome
-first_refusal [] = Accepted
-first_refusal (check ∷ rest) = unless check.holds (Refused check.code) (first_refusal rest)
+first_refusal [] = Ok tt
+first_refusal (check ∷ rest) = unless check.holds (Err check.code) (first_refusal rest)
+
+-- what a call answers that gives a value: the value where its checks hold, and else the refusal alone
+abbrev pub answer_with : {A : Type 0} → Outcome → A → Result A ErrorCode
+answer_with (Ok done) value = Ok value
+answer_with (Err code) value = Err code
 
 -- what a lent number holds at the end: the value that was answered, and where there is none what it held
 abbrev pub value_or : List ℕ → ℕ → ℕ
@@ -54,5 +61,5 @@ value_or (value ∷ values) before = value
 -- what a lent slice holds at the end: what was made where the call is accepted, and else what it held ("every lent buffer keep
 -- their contents")
 abbrev pub held_after : {A : Type 0} → Outcome → List A → List A → List A
-held_after Accepted made before = made
-held_after (Refused code) made before = before
+held_after (Ok done) made before = made
+held_after (Err code) made before = before

@@ -4,14 +4,12 @@ use mathlib.Core.Path.{◌≡◌, refl, sym, ◌∙◌, ap, subst}
 use mathlib.Core.Bool.{Bool, true, false, not, cond, ◌&&◌}
 use mathlib.Core.Logic.{inl, inr}
 use mathlib.Core.List.{[], ◌∷◌}
-use Prim.Native.Nat.{ℕ, ◌<◌}
+use Prim.Native.Nat.{ℕ}
 use native.Mathlib.Omega.{arith}
 use borrow.Author.Tests.{ne_eqb}
 use lib.Dec.{eqb}
-use Rattle.limits.specs.Errors.{◌otherwise◌, first_refusal}
+use Rattle.limits.specs.Errors.{Outcome, ◌otherwise◌, first_refusal}
 use Rattle.limits.specs.declared.ErrorCode.TheVariants.{RecordOutOfOrder}
-use Rattle.limits.specs.declared.Outcome.{Outcome}
-use Rattle.limits.specs.declared.Outcome.TheVariants as O
 use Rattle.kernel.specs.declared.Choice.{Choice}
 use Rattle.kernel.specs.declared.Choice.TheVariants.{Smallest}
 use Rattle.kernel.specs.Choice.{free_by}
@@ -24,15 +22,16 @@ use Rattle.machine.specs.History.{Place, changing, changed_place, onward, job_of
 use Rattle.machine.specs.Demand.{change_outcome}
 use Rattle.machine.proofs.ChangeOver.{slot_changed, many_changed, count_changed}
 use Rattle.machine.proofs.Invariant.{Invariant, size, slot_of, Sits, Taken, in_order_lem}
+use Rattle.std.specs.Prelude.{Ok, Err}
 
 -- ---- what it does not change, accepted or not
 module _ (p : Place) where
-  same : {A : Type 0} (f : Place → A) → f (changed_place O.Accepted p) ≡ f p → f (onward p changing) ≡ f p
+  same : {A : Type 0} (f : Place → A) → f (changed_place (Ok tt) p) ≡ f p → f (onward p changing) ≡ f p
   same {A} f e = go (change_checks p.rules p.service)
     where
       go : (o : Outcome) → f (changed_place o p) ≡ f p
-      go O.Accepted = e
-      go (O.Refused code) = refl
+      go (Ok done) = e
+      go (Err code) = refl
 
   pub same_history : (onward p changing).history ≡ p.history
   same_history = same (λ q. q.history) refl
@@ -86,7 +85,7 @@ module _ (p : Place) (v : Invariant p) where
     number_on : (i : ℕ) → (slot_at (changed_over p.service) i).number ≡ (slot_at p.service i).number
     number_on i = ap (λ (s : Slot). s.number) (slot_changed p.service i)
 
-    changed_over_lem : Invariant (changed_place O.Accepted p)
+    changed_over_lem : Invariant (changed_place (Ok tt) p)
     changed_over_lem =
         record {
           workable = record { some_slot = v.workable.some_slot; some_buffer = v.workable.some_buffer; in_store = v.workable.in_store };

@@ -8,9 +8,7 @@ use native.Mathlib.Omega.{arith}
 use borrow.Author.Tests.{ne_eqb}
 use lib.Dec.{eqb, leb, ltb}
 use lib.ListN.{length, set}
-use Rattle.limits.specs.Errors.{◌otherwise◌, first_refusal}
-use Rattle.limits.specs.declared.Outcome.{Outcome}
-use Rattle.limits.specs.declared.Outcome.TheVariants.{Accepted, Refused}
+use Rattle.limits.specs.Errors.{Outcome, ◌otherwise◌, first_refusal}
 use Rattle.limits.specs.declared.ErrorCode.TheVariants.{RecordOutOfOrder, NoSuchJob, NoFreeBuffers, NumbersUsedUp}
 use Rattle.limits.proofs.Laws.{both_true}
 use Rattle.limits.proofs.Checks.{all_hold}
@@ -22,9 +20,6 @@ use Rattle.kernel.proofs.Bounds.{free_kernel}
 use Rattle.covariance.specs.declared.Shape.{Shape}
 use Rattle.machine.specs.declared.Slot.{Slot}
 use Rattle.machine.specs.declared.Service.{Service}
-use Rattle.machine.specs.declared.Answer.TheVariants.{Job}
-use Rattle.machine.specs.declared.Found.{Found}
-use Rattle.machine.specs.declared.Found.TheVariants.{At, Nothing}
 use Rattle.machine.specs.Rules.{Rules, base_rules, with_choice}
 use Rattle.machine.specs.Slots.{empty_slot, slot_at, is_empty, has_steps_left, has_number, next_place}
 use Rattle.machine.specs.Store.{store_length, Workable, put, buffer_after}
@@ -36,6 +31,8 @@ use Rattle.machine.proofs.Rules.{base_workable}
 use Rattle.machine.proofs.Orderly.{filled_slot, left_filled, served_found}
 use Rattle.machine.proofs.ChangeOver.{slot_changed, set_changed, find_changed, count_changed, order_changed}
 use Rattle.machine.proofs.Kept.{stays_in_order}
+use Rattle.std.specs.Prelude.{Option, Some, None, Ok, Err}
+use Rattle.machine.specs.declared.Answer.TheVariants.{Job}
 
 module _ (rules : Rules) (workable : Workable rules) (no-choice : rules.holds_choice ≡ false) (r : Service) where
   abbrev new : Rules
@@ -57,11 +54,11 @@ module _ (rules : Rules) (workable : Workable rules) (no-choice : rules.holds_ch
   served_same = find_changed has_steps_left (λ s. refl) r.slots rules.slot_count (next_place rules.slot_count r.served) rules.slot_count
 
   place_same : (n : ℕ) → place_of new (changed_over r) n ≡ place_of rules r n
-  place_same n = ap (cond (eqb n 0) Nothing) (find_changed (has_number n) (λ s. refl) r.slots rules.slot_count 0 rules.slot_count)
+  place_same n = ap (cond (eqb n 0) None) (find_changed (has_number n) (λ s. refl) r.slots rules.slot_count 0 rules.slot_count)
 
-  found_same : (f : Found) → slot_found (changed_over r) f ≡ changed_slot (slot_found r f)
-  found_same (At i) = slot_changed r i
-  found_same Nothing = refl
+  found_same : (f : Option ℕ) → slot_found (changed_over r) f ≡ changed_slot (slot_found r f)
+  found_same (Some i) = slot_changed r i
+  found_same None = refl
 
   -- a job goes on by the kernel that it had
   kernel_same : (s : Slot) → (s.number ≡ 0 → ⊥) → kernel_exists s.xx s.xy s.yy (units_of s.steps) ≡ true
@@ -103,16 +100,16 @@ module _ (rules : Rules) (workable : Workable rules) (no-choice : rules.holds_ch
           (submit_checks_same shape k w h pixels) empty_same
           ∙ go (submit_checks rules r store shape k w h pixels) (empty_place rules r)
         where
-          go : (o : Outcome) (f : Found)
+          go : (o : Outcome) (f : Option ℕ)
               → unless_refused o (changed_over r) store pixels (submit_at new (changed_over r) store Smallest shape k w h pixels f)
               ≡ result_changed (unless_refused o r store pixels (submit_at rules r store choice shape k w h pixels f))
-          go (Refused code) f = refl
-          go Accepted Nothing = refl
-          go Accepted (At i) =
+          go (Err code) f = refl
+          go (Ok done) None = refl
+          go (Ok done) (Some i) =
               let filled =
               ap (λ (s : Slot). let x : Service = record { slots = set (changed_over r).slots i s; last = r.last + 1; filled = i; served = r.served } in x) (new_slot_same choice shape k w h)
               ∙ set_same i (new_slot rules (r.last + 1) choice shape k w h) (r.last + 1) i r.served in
-              ap (λ (x : Service). let y : Result = record { answer = Job (r.last + 1); service = x; store = put (buffer_after rules i 0) pixels store; lent = pixels } in y) filled
+              ap (λ (x : Service). let y : Result = record { answer = Ok (Job (r.last + 1)); service = x; store = put (buffer_after rules i 0) pixels store; lent = pixels } in y) filled
 
       -- ---- tick
       tick_same : tick_of new (changed_over r) store ≡ result_changed (tick_of rules r store)
@@ -122,8 +119,8 @@ module _ (rules : Rules) (workable : Workable rules) (no-choice : rules.holds_ch
           (ap (λ t. first_refusal ((t otherwise RecordOutOfOrder) ∷ [])) (usable_same store)) served_same
           ∙ go (tick_checks rules r store) (served_place rules r) refl
         where
-          stepped : (i : ℕ) → served_place rules r ≡ At i
-              → tick_at new (changed_over r) store (At i) ≡ result_changed (tick_at rules r store (At i))
+          stepped : (i : ℕ) → served_place rules r ≡ Some i
+              → tick_at new (changed_over r) store (Some i) ≡ result_changed (tick_at rules r store (Some i))
           stepped i p =
               let s = slot_at r i in
               let g = served_found rules workable r i p in
@@ -131,11 +128,11 @@ module _ (rules : Rules) (workable : Workable rules) (no-choice : rules.holds_ch
               let kernel = kernel_same s filled (filled_slot rules r ordered i g.0 filled).kernel in
               rw (slot_changed r i, kernel, set_changed r.slots i (with_left s (s.left - 1)))
 
-          go : (o : Outcome) (f : Found) → served_place rules r ≡ f
+          go : (o : Outcome) (f : Option ℕ) → served_place rules r ≡ f
               → unless_refused o (changed_over r) store [] (tick_at new (changed_over r) store f) ≡ result_changed (unless_refused o r store [] (tick_at rules r store f))
-          go (Refused code) f p = refl
-          go Accepted Nothing p = refl
-          go Accepted (At i) p = stepped i p
+          go (Err code) f p = refl
+          go (Ok done) None p = refl
+          go (Ok done) (Some i) p = stepped i p
 
       -- ---- collect and withdraw
       collect_checks_same : (n : ℕ) (lent : List ℕ) → collect_checks new (changed_over r) store n lent ≡ collect_checks rules r store n lent
@@ -148,12 +145,12 @@ module _ (rules : Rules) (workable : Workable rules) (no-choice : rules.holds_ch
           ap₂ (λ o f. unless_refused o (changed_over r) store lent (collect_at new (changed_over r) store n lent f)) (collect_checks_same n lent) (place_same n)
           ∙ go (collect_checks rules r store n lent) (place_of rules r n)
         where
-          go : (o : Outcome) (f : Found)
+          go : (o : Outcome) (f : Option ℕ)
               → unless_refused o (changed_over r) store lent (collect_at new (changed_over r) store n lent f)
               ≡ result_changed (unless_refused o r store lent (collect_at rules r store n lent f))
-          go (Refused code) f = refl
-          go Accepted Nothing = refl
-          go Accepted (At i) = rw (slot_changed r i, emptied_same i)
+          go (Err code) f = refl
+          go (Ok done) None = refl
+          go (Ok done) (Some i) = rw (slot_changed r i, emptied_same i)
 
       withdraw_same : (n : ℕ) → withdraw_of new (changed_over r) store n ≡ result_changed (withdraw_of rules r store n)
       unfolding withdraw_of
@@ -162,11 +159,11 @@ module _ (rules : Rules) (workable : Workable rules) (no-choice : rules.holds_ch
           (ap₂ (λ t f. first_refusal ((t otherwise RecordOutOfOrder) ∷ (is_found f otherwise NoSuchJob) ∷ [])) (order_changed rules no-choice r) (place_same n)) (place_same n)
           ∙ go (withdraw_checks rules r n) (place_of rules r n)
         where
-          go : (o : Outcome) (f : Found)
+          go : (o : Outcome) (f : Option ℕ)
               → unless_refused o (changed_over r) store [] (withdraw_at (changed_over r) store n f) ≡ result_changed (unless_refused o r store [] (withdraw_at r store n f))
-          go (Refused code) f = refl
-          go Accepted Nothing = refl
-          go Accepted (At i) = rw (emptied_same i)
+          go (Err code) f = refl
+          go (Ok done) None = refl
+          go (Ok done) (Some i) = rw (emptied_same i)
 
       call_same : (c : Call) → call_of new (changed_over r) store (naming_smallest c) ≡ result_changed (call_of rules r store c)
       call_same (submit choice shape k w h pixels) = submit_same choice shape k w h pixels

@@ -9,9 +9,7 @@ use native.Mathlib.Omega.{arith}
 use borrow.Author.Tests.{eq-eqb}
 use lib.Dec.{eqb, ltb}
 use Rattle.limits.specs.Limits.{steps_in_range}
-use Rattle.limits.specs.Errors.{Check, ◌otherwise◌, unless, first_refusal, number_of}
-use Rattle.limits.specs.declared.Outcome.{Outcome}
-use Rattle.limits.specs.declared.Outcome.TheVariants as O
+use Rattle.limits.specs.Errors.{Outcome, Check, ◌otherwise◌, unless, first_refusal, number_of}
 use Rattle.limits.specs.declared.ErrorCode.{ErrorCode}
 use Rattle.limits.specs.declared.ErrorCode.TheVariants.{RecordOutOfOrder, NoKernel, NoFreeBuffers, NumbersUsedUp}
 use Rattle.limits.proofs.Checks.{all_hold, or_else, in_turn, refused_not_accepted}
@@ -20,7 +18,6 @@ use Rattle.covariance.specs.declared.Shape.{Shape}
 use Rattle.covariance.specs.Shapes.{shape_has_kernel}
 use Rattle.covariance.proofs.Refusals.{shape_refused_exactly}
 use Rattle.machine.specs.declared.Service.{Service}
-use Rattle.machine.specs.declared.Answer.TheVariants.{Refused}
 use Rattle.machine.specs.Rules.{Rules}
 use Rattle.machine.specs.Store.{Workable}
 use Rattle.machine.specs.Order.{usable}
@@ -30,6 +27,7 @@ use Rattle.machine.specs.Demand.{number_unless, submit_outcome}
 use Rattle.machine.specs.Eleven.{earlier_checks, OnlyNoKernel, ElevenExactly}
 use Rattle.machine.proofs.Finds.{submit_answers}
 use Rattle.machine.proofs.Theorem.{demand_3_by}
+use Rattle.std.specs.Prelude.{Ok, Err}
 
 -- ---- one check of a list
 -- no check of a list answers this code
@@ -37,14 +35,14 @@ abbrev none_answers : ErrorCode → List Check → Bool
 none_answers code [] = true
 none_answers code (check ∷ rest) = not (eqb (number_of check.code) (number_of code)) && none_answers code rest
 
-not_answered : (code : ErrorCode) (checks : List Check) → none_answers code checks ≡ true → first_refusal checks ≡ O.Refused code → ⊥
+not_answered : (code : ErrorCode) (checks : List Check) → none_answers code checks ≡ true → first_refusal checks ≡ Err code → ⊥
 not_answered code [] n e = refused_not_accepted (sym e)
 not_answered code (check ∷ rest) n e =
     let b = both_true (not (eqb (number_of check.code) (number_of code))) (none_answers code rest) n in
     go check.holds e (not_answered code rest b.1) b.0
   where
-    go : (t : Bool) → unless t (O.Refused check.code) (first_refusal rest) ≡ O.Refused code
-        → (first_refusal rest ≡ O.Refused code → ⊥) → not (eqb (number_of check.code) (number_of code)) ≡ true → ⊥
+    go : (t : Bool) → unless t (Err check.code) (first_refusal rest) ≡ Err code
+        → (first_refusal rest ≡ Err code → ⊥) → not (eqb (number_of check.code) (number_of code)) ≡ true → ⊥
     go true e f b = f e
     go false e f b =
         let same : number_of check.code ≡ number_of code = cc in
@@ -53,34 +51,34 @@ not_answered code (check ∷ rest) n e =
 -- a code that no other check of the list answers is answered where the checks before its own pass and its own fails
 module _ (code : ErrorCode) (before rest : List Check) (t : Bool)
     (n : none_answers code before ≡ true) (m : none_answers code rest ≡ true) where
-  answered_at : (first_refusal (before ++ ((t otherwise code) ∷ rest)) ≡ O.Refused code)
-      ↔ ((first_refusal before ≡ O.Accepted) × (t ≡ false))
+  answered_at : (first_refusal (before ++ ((t otherwise code) ∷ rest)) ≡ Err code)
+      ↔ ((first_refusal before ≡ Ok tt) × (t ≡ false))
   answered_at =
       let turns = in_turn before ((t otherwise code) ∷ rest) in
       (λ e. only (first_refusal before) t refl (sym turns ∙ e), λ h. turns ∙ rw (h.0, h.1))
     where
       only : (o : Outcome) (t : Bool) → first_refusal before ≡ o
-          → or_else o (unless t (O.Refused code) (first_refusal rest)) ≡ O.Refused code → (o ≡ O.Accepted) × (t ≡ false)
-      only O.Accepted true b e = absurd (not_answered code rest m e)
-      only O.Accepted false b e = (refl, refl)
-      only (O.Refused other) t b e = absurd (not_answered code before n (b ∙ e))
+          → or_else o (unless t (Err code) (first_refusal rest)) ≡ Err code → (o ≡ Ok tt) × (t ≡ false)
+      only (Ok done) true b e = absurd (not_answered code rest m e)
+      only (Ok done) false b e = (refl, refl)
+      only (Err other) t b e = absurd (not_answered code before n (b ∙ e))
 
 -- a first check and the others
 first_and_rest : (check : Check) (rest : List Check)
-    → (first_refusal (check ∷ rest) ≡ O.Accepted) ↔ ((check.holds ≡ true) × (first_refusal rest ≡ O.Accepted))
+    → (first_refusal (check ∷ rest) ≡ Ok tt) ↔ ((check.holds ≡ true) × (first_refusal rest ≡ Ok tt))
 first_and_rest check rest = (go check.holds, λ h. rw h.0 h.1)
   where
-    go : (t : Bool) → unless t (O.Refused check.code) (first_refusal rest) ≡ O.Accepted
-        → (t ≡ true) × (first_refusal rest ≡ O.Accepted)
+    go : (t : Bool) → unless t (Err check.code) (first_refusal rest) ≡ Ok tt
+        → (t ≡ true) × (first_refusal rest ≡ Ok tt)
     go true e = (refl, e)
     go false e = absurd (refused_not_accepted e)
 
 -- ---- the kernel's test
 module _ (shape : Shape) (k w h : ℕ) (pixels : List ℕ) where
-  steps_fine : first_refusal (earlier_checks shape k w h pixels) ≡ O.Accepted → steps_in_range k ≡ true
+  steps_fine : first_refusal (earlier_checks shape k w h pixels) ≡ Ok tt → steps_in_range k ≡ true
   steps_fine e = (all_hold (earlier_checks shape k w h pixels) e).1.1.0
 
-  wide : ((first_refusal (earlier_checks shape k w h pixels) ≡ O.Accepted) × (shape_has_kernel shape k ≡ false))
+  wide : ((first_refusal (earlier_checks shape k w h pixels) ≡ Ok tt) × (shape_has_kernel shape k ≡ false))
       ↔ OnlyNoKernel shape k w h pixels
   wide = (
     λ a. record { earlier = a.0; no_weights = (shape_refused_exactly shape k (steps_fine a.0)).0 a.1 },
@@ -88,7 +86,7 @@ module _ (shape : Shape) (k w h : ℕ) (pixels : List ℕ) where
   )
 
   -- the words of demand 3
-  outcome_eleven : (rules : Rules) (es : List Event) → (submit_outcome rules es shape k w h pixels ≡ O.Refused NoKernel) ↔ OnlyNoKernel shape k w h pixels
+  outcome_eleven : (rules : Rules) (es : List Event) → (submit_outcome rules es shape k w h pixels ≡ Err NoKernel) ↔ OnlyNoKernel shape k w h pixels
   outcome_eleven rules es =
       let seats = ltb (held_count es) rules.slot_count otherwise NoFreeBuffers in
       let room = seats ∷ (ltb (job_count es) last_number otherwise NumbersUsedUp) ∷ [] in
@@ -97,7 +95,7 @@ module _ (shape : Shape) (k w h : ℕ) (pixels : List ℕ) where
 
   -- the call's checks
   checks_eleven : (rules : Rules) (r : Service) (store : List ℕ)
-      → (submit_checks rules r store shape k w h pixels ≡ O.Refused NoKernel) ↔ ((usable rules r store ≡ true) × OnlyNoKernel shape k w h pixels)
+      → (submit_checks rules r store shape k w h pixels ≡ Err NoKernel) ↔ ((usable rules r store ≡ true) × OnlyNoKernel shape k w h pixels)
   unfolding submit_checks
   checks_eleven rules r store =
       let check = usable rules r store otherwise RecordOutOfOrder in
@@ -109,12 +107,12 @@ module _ (shape : Shape) (k w h : ℕ) (pixels : List ℕ) where
       )
 
 -- ---- answers
-unless_refused_lem : (o : Outcome) (n : ℕ) (code : ErrorCode) → (number_unless o n ≡ Refused code) ↔ (o ≡ O.Refused code)
-unless_refused_lem O.Accepted n code = (
+unless_refused_lem : (o : Outcome) (n : ℕ) (code : ErrorCode) → (number_unless o n ≡ Err code) ↔ (o ≡ Err code)
+unless_refused_lem (Ok done) n code = (
   λ e. absurd (let z : ◌≡◌ {A = ℕ} 0 1 = cc in omega arith),
   λ e. absurd (refused_not_accepted (sym e)),
 )
-unless_refused_lem (O.Refused other) n code = (λ e. cc, λ e. cc)
+unless_refused_lem (Err other) n code = (λ e. cc, λ e. cc)
 
 pub eleven_exactly : (rules : Rules) → Workable rules → ElevenExactly rules
 eleven_exactly rules workable =

@@ -11,16 +11,10 @@ use borrow.Author.Tests.{eq-eqb, ne_eqb, eqb-true, eqb-false, lt-ltb}
 use lib.Dec.{eqb, ltb}
 use lib.ListN.{length}
 use Rattle.limits.specs.Limits.{fills_picture}
-use Rattle.limits.specs.Errors.{Check, ◌otherwise◌, first_refusal}
-use Rattle.limits.specs.declared.Outcome.{Outcome}
-use Rattle.limits.specs.declared.Outcome.TheVariants as O
+use Rattle.limits.specs.Errors.{Outcome, Check, ◌otherwise◌, first_refusal}
 use Rattle.limits.specs.declared.ErrorCode.{ErrorCode}
 use Rattle.limits.specs.declared.ErrorCode.TheVariants.{NoSuchJob, StepsAreLeft, WrongLength}
 use Rattle.machine.specs.declared.Slot.{Slot}
-use Rattle.machine.specs.declared.Answer.{Answer}
-use Rattle.machine.specs.declared.Answer.TheVariants.{Job, Refused}
-use Rattle.machine.specs.declared.Found.{Found}
-use Rattle.machine.specs.declared.Found.TheVariants.{At, Nothing}
 use Rattle.machine.specs.Slots.{empty_slot, slot_at, is_empty, has_number, first_from}
 use Rattle.machine.specs.Store.{part, buffer_after, current_image}
 use Rattle.machine.specs.Calls.{Call, collect, withdraw, Result, call_of, place_of, emptied, collect_checks, collect_of, withdraw_of}
@@ -31,14 +25,17 @@ use Rattle.machine.proofs.Words.{Untouched, same_held, ended_held, many_less}
 use Rattle.limits.proofs.Checks.{AllHold, all_hold}
 use Rattle.machine.proofs.Invariant.{Invariant, size, Sits, Change, changed, in_order_lem, is_usable}
 use Rattle.machine.proofs.Served.{Served, sets, refused_call}
+use Rattle.std.specs.Prelude.{Option, Some, None, Ok, Err}
+use Rattle.machine.specs.declared.Answer.TheVariants.{Job}
+use Rattle.machine.specs.Answers.{Answered}
 
 -- a call that ends the job with a number where it is accepted: a collect or a withdraw
 record Ending (c : Call) (n : ℕ) : Type 0 where
-  starts_none : (a : Answer) (m : ℕ) → starts_by c a m ≡ false
-  serves_none : (a : Answer) (m : ℕ) → serves_by c a m ≡ false
-  ends_own : ends_by c (Job n) n ≡ true
-  ends_only : (m : ℕ) → (m ≡ n → ⊥) → ends_by c (Job n) m ≡ false
-  gives_none : (a : Answer) (ns : List ℕ) → given_by c a ns ≡ ns
+  starts_none : (a : Answered) (m : ℕ) → starts_by c a m ≡ false
+  serves_none : (a : Answered) (m : ℕ) → serves_by c a m ≡ false
+  ends_own : ends_by c (Ok (Job n)) n ≡ true
+  ends_only : (m : ℕ) → (m ≡ n → ⊥) → ends_by c (Ok (Job n)) m ≡ false
+  gives_none : (a : Answered) (ns : List ℕ) → given_by c a ns ≡ ns
 
 withdraw_ends : (n : ℕ) → Ending (withdraw n) n
 withdraw_ends n =
@@ -72,7 +69,7 @@ module _ (p : Place) (v : Invariant p) where
   pub record Seated (n : ℕ) : Type 0 where
     pub at : ℕ
     pub below : at < size p
-    pub is : place_of p.rules p.service n ≡ At at
+    pub is : place_of p.rules p.service n ≡ Some at
     pub sits : Sits p.rules p.history p.store at n (slot_at p.service at)
 
   pub seated : (n : ℕ) → held p.history n ≡ true → Seated n
@@ -87,38 +84,38 @@ module _ (p : Place) (v : Invariant p) where
         sits = sits_with n g.at w.3 g.below (eqb-true _ _ g.passes);
       }
 
-  pub unseated : (n : ℕ) → held p.history n ≡ false → place_of p.rules p.service n ≡ Nothing
+  pub unseated : (n : ℕ) → held p.history n ≡ false → place_of p.rules p.service n ≡ None
   unseated n h = zero_or (eqb n 0) refl
     where
-      go : (f : Found) → first_from (has_number n) p.service.slots (size p) 0 (size p) ≡ f → (n ≡ 0 → ⊥) → f ≡ Nothing
-      go Nothing e ne = refl
-      go (At i) e ne =
+      go : (f : Option ℕ) → first_from (has_number n) p.service.slots (size p) 0 (size p) ≡ f → (n ≡ 0 → ⊥) → f ≡ None
+      go None e ne = refl
+      go (Some i) e ne =
           let w = found (has_number n) p.service.slots (size p) v.workable.some_slot (size p) 0 i v.workable.some_slot e in
           let s = sits_with n i (omega arith) w.0 (eqb-true _ _ w.1) in
           absurd (true≢false (sym s.is_held ∙ h))
 
-      zero_or : (t : Bool) → eqb n 0 ≡ t → cond t Nothing (first_from (has_number n) p.service.slots (size p) 0 (size p)) ≡ Nothing
+      zero_or : (t : Bool) → eqb n 0 ≡ t → cond t None (first_from (has_number n) p.service.slots (size p) 0 (size p)) ≡ None
       zero_or true e = refl
       zero_or false e = go (first_from (has_number n) p.service.slots (size p) 0 (size p)) refl (eqb-false n 0 e)
 
   -- ---- the job is ended
   module _ (c : Call) (n i : ℕ) (lent : List ℕ) (ending : Ending c n) (at : i < size p) (s : Sits p.rules p.history p.store i n (slot_at p.service i))
-      (result : call_of p.rules p.service p.store c ≡ record { answer = Job n; service = emptied p.service i; store = p.store; lent = lent }) where
+      (result : call_of p.rules p.service p.store c ≡ record { answer = Ok (Job n); service = emptied p.service i; store = p.store; lent = lent }) where
     abbrev event : Event
-    event = record { rules = p.rules; call = c; answer = Job n; lent = lent }
+    event = record { rules = p.rules; call = c; answer = Ok (Job n); lent = lent }
 
     number : (slot_at p.service i).number ≡ n
     number = ap (λ (s : Slot). s.number) s.is
 
     others : (m : ℕ) → (m ≡ n → ⊥) → Untouched event m
-    others m ne = record { unstarted = ending.starts_none (Job n) m; unserved = ending.serves_none (Job n) m; unended = ending.ends_only m ne }
+    others m ne = record { unstarted = ending.starts_none (Ok (Job n)) m; unserved = ending.serves_none (Ok (Job n)) m; unended = ending.ends_only m ne }
 
     same_given : numbers (event ∷ p.history) ≡ numbers p.history
     unfolding numbers
-    same_given = ending.gives_none (Job n) (numbers p.history)
+    same_given = ending.gives_none (Ok (Job n)) (numbers p.history)
 
     gone : held (event ∷ p.history) n ≡ false
-    gone = ended_held event p.history n (ending.starts_none (Job n) n) ending.ends_own
+    gone = ended_held event p.history n (ending.starts_none (Ok (Job n)) n) ending.ends_own
 
     one_less : held_count p.history ≡ held_count (event ∷ p.history) + 1
     one_less =
@@ -148,7 +145,7 @@ module _ (p : Place) (v : Invariant p) where
           counted = rw (result, nonempty) (omega (arith, one_less));
         }
 
-    ended : Served p c (Job n)
+    ended : Served p c (Ok (Job n))
     ended =
         record {
           answered = ap (λ (r : Result). r.answer) result;
@@ -193,12 +190,12 @@ module _ (p : Place) (v : Invariant p) where
     checks_are true h = let w = seated n h in rw (is_usable p v, w.is, h, w.sits.is, not_left (steps_left p.history n))
     checks_are false h = rw (is_usable p v, unseated n h, h)
 
-    refused : (code : ErrorCode) → checks ≡ O.Refused code
-        → collect_of p.rules p.service p.store n lent ≡ record { answer = Refused code; service = p.service; store = p.store; lent = lent }
+    refused : (code : ErrorCode) → checks ≡ Err code
+        → collect_of p.rules p.service p.store n lent ≡ record { answer = Err code; service = p.service; store = p.store; lent = lent }
     unfolding collect_of
     refused code e = rw (checks_are (held p.history n) refl, e)
 
-    module _ (fine : checks ≡ O.Accepted) where
+    module _ (fine : checks ≡ Ok tt) where
       all : AllHold tests
       all = all_hold tests fine
 
@@ -215,27 +212,27 @@ module _ (p : Place) (v : Invariant p) where
           ∙ seat.sits.image ∙ ap (alone_after job) all_done)
 
       result : collect_of p.rules p.service p.store n lent
-          ≡ record { answer = Job n; service = emptied p.service seat.at; store = p.store; lent = alone_after job job.steps }
+          ≡ record { answer = Ok (Job n); service = emptied p.service seat.at; store = p.store; lent = alone_after job job.steps }
       unfolding collect_of
       result = rw (checks_are (held p.history n) refl, fine, seat.is, handed)
 
-      accepted : Served p (collect n lent) (Job n)
+      accepted : Served p (collect n lent) (Ok (Job n))
       accepted = ended (collect n lent) n seat.at (alone_after job job.steps) (collect_ends n lent) seat.below seat.sits result
 
     collects_when : (o : Outcome) → checks ≡ o → Served p (collect n lent) (number_unless o n)
-    collects_when O.Accepted e = accepted e
-    collects_when (O.Refused code) e = refused_call p v (collect n lent) code (refused code e)
+    collects_when (Ok done) e = accepted e
+    collects_when (Err code) e = refused_call p v (collect n lent) code (refused code e)
 
     pub collects : Served p (collect n lent) (collect_answer p.history n lent)
     collects = collects_when checks refl
 
-    refused_no_job : (code : ErrorCode) → Refused code ≡ Job n → ⊥
+    refused_no_job : (code : ErrorCode) → Err code ≡ Ok (Job n) → ⊥
     refused_no_job code e = let z : ◌≡◌ {A = ℕ} 0 1 = cc in omega arith
 
     -- an accepted collect: the job is held and finished, and its picture is handed over
-    pub hands_over : answer_at p (collect n lent) ≡ Job n → (lent_after p (collect n lent) ≡ alone_after job job.steps) × Seated n
+    pub hands_over : answer_at p (collect n lent) ≡ Ok (Job n) → (lent_after p (collect n lent) ≡ alone_after job job.steps) × Seated n
     hands_over a = go checks refl
       where
         go : (o : Outcome) → checks ≡ o → (lent_after p (collect n lent) ≡ alone_after job job.steps) × Seated n
-        go O.Accepted e = (ap (λ (r : Result). r.lent) (result e), seat e)
-        go (O.Refused code) e = absurd (refused_no_job code (sym (ap (λ (r : Result). r.answer) (refused code e)) ∙ a))
+        go (Ok done) e = (ap (λ (r : Result). r.lent) (result e), seat e)
+        go (Err code) e = absurd (refused_no_job code (sym (ap (λ (r : Result). r.answer) (refused code e)) ∙ a))

@@ -6,13 +6,11 @@ use mathlib.Core.List.{List, [], ◌∷◌}
 use Prim.Native.Nat.{ℕ, zero, suc, ◌+◌, ◌-◌, ◌≤◌, ◌<◌}
 use native.Mathlib.Nat.{le_refl, le_trans}
 use native.Mathlib.Omega.{arith}
-use borrow.Author.Tests.{lt-ltb, le-leb, eq-eqb, ne_eqb, eqb-true, eqb-false}
-use lib.Dec.{eqb, ltb}
+use borrow.Author.Tests.{le-leb, eq-eqb, ne_eqb, eqb-true, eqb-false}
+use lib.Dec.{eqb}
 use lib.ListN.{length, get_or, set}
 use lib.Seq.{get_or-set_same, get_or-set_other}
-use Rattle.limits.specs.Errors.{Check, ◌otherwise◌}
-use Rattle.limits.specs.declared.Outcome.{Outcome}
-use Rattle.limits.specs.declared.Outcome.TheVariants.{Accepted, Refused}
+use Rattle.limits.specs.Errors.{Outcome, Check, ◌otherwise◌}
 use Rattle.limits.specs.declared.ErrorCode.TheVariants.{RecordOutOfOrder}
 use Rattle.limits.proofs.Laws.{both_true}
 use Rattle.limits.proofs.Checks.{AllHold, all_hold}
@@ -25,17 +23,15 @@ use Rattle.covariance.specs.declared.Shape.{Shape}
 use Rattle.covariance.specs.Shapes.{covariance_xx, covariance_xy, covariance_yy}
 use Rattle.machine.specs.declared.Slot.{Slot}
 use Rattle.machine.specs.declared.Service.{Service}
-use Rattle.machine.specs.declared.Found.{Found}
-use Rattle.machine.specs.declared.Found.TheVariants.{At, Nothing}
 use Rattle.machine.specs.Rules.{Rules}
-use Rattle.machine.specs.Slots.{empty_slot, slot_at, has_number, count_of, every_slot}
+use Rattle.machine.specs.Slots.{empty_slot, slot_at, has_number, count_of}
 use Rattle.machine.specs.Store.{Workable}
 use Rattle.machine.specs.Order.{FilledSlot, all_zero, filled_fine, free_fine, unshared, slot_fine, in_order, usable}
 use Rattle.machine.specs.Calls.{Call, submit, tick, collect, withdraw, submitted_checks, room_checks, submit_checks, empty_place, new_slot, submit_at, unless_refused, submit_of, with_left, served_place, tick_checks, tick_at, tick_of, place_of, collect_checks, collect_at, collect_of, withdraw_checks, withdraw_at, withdraw_of, emptied, call_of}
 use Rattle.machine.proofs.Search.{count_set}
-use Rattle.machine.proofs.Counts.{every_each, every_made}
 use Rattle.machine.proofs.Invariant.{count_none}
 use Rattle.machine.proofs.Orderly.{slot_fine_lem, order_made, filled_lt, served_lt, filled_slot, left_filled, empty_found, served_found, place_found}
+use Rattle.std.specs.Prelude.{Option, Some, None, Ok, Err}
 
 -- where a count is 0, no slot passes
 counted_none : (test : Slot → Bool) (xs : List Slot) (n : ℕ) → count_of test xs n ≡ 0 → (i : ℕ) → i < n → test (get_or xs i empty_slot) ≡ false
@@ -191,11 +187,11 @@ module _ (rules : Rules) (r : Service) (ordered : in_order rules r ≡ true) whe
           above : (j : ℕ) → j < rules.slot_count → (slot_at r j).number ≡ r.last + 1 → ⊥
           above j g e = let x = (filled_slot rules r ordered j g (λ z. omega arith)).number in omega arith
 
-          go : (o : Outcome) → submit_checks rules r store shape k w h pixels ≡ o → (f : Found) → empty_place rules r ≡ f
+          go : (o : Outcome) → submit_checks rules r store shape k w h pixels ≡ o → (f : Option ℕ) → empty_place rules r ≡ f
               → in_order rules (unless_refused o r store pixels (submit_at rules r store choice shape k w h pixels f)).service ≡ true
-          go (Refused code) e f p = ordered
-          go Accepted e Nothing p = ordered
-          go Accepted e (At i) p =
+          go (Err code) e f p = ordered
+          go (Ok done) e None p = ordered
+          go (Ok done) e (Some i) p =
               set_keeps i (empty_found rules workable r i p).0 (new_slot rules (r.last + 1) choice shape k w h) (r.last + 1) i r.served (omega arith) (empty_found rules workable r i p).0
               (served_lt rules r ordered) (λ z. absurd (omega arith)) (λ ne. fills (all_hold (tests shape k w h pixels) e)) (λ j g away ne x. above j g x)
 
@@ -204,10 +200,10 @@ module _ (rules : Rules) (r : Service) (ordered : in_order rules r ≡ true) whe
       unfolding tick_of
       tick_keeps = go (tick_checks rules r store) (served_place rules r) refl
         where
-          go : (o : Outcome) → (f : Found) → served_place rules r ≡ f → in_order rules (unless_refused o r store [] (tick_at rules r store f)).service ≡ true
-          go (Refused code) f p = ordered
-          go Accepted Nothing p = ordered
-          go Accepted (At i) p =
+          go : (o : Outcome) → (f : Option ℕ) → served_place rules r ≡ f → in_order rules (unless_refused o r store [] (tick_at rules r store f)).service ≡ true
+          go (Err code) f p = ordered
+          go (Ok done) None p = ordered
+          go (Ok done) (Some i) p =
               let g = served_found rules workable r i p in
               let ne = left_filled rules r ordered i g.0 g.1 in
               let w = filled_slot rules r ordered i g.0 ne in
@@ -230,19 +226,19 @@ module _ (rules : Rules) (r : Service) (ordered : in_order rules r ≡ true) whe
       unfolding collect_of
       collect_keeps n lent = go (collect_checks rules r store n lent) (place_of rules r n) refl
         where
-          go : (o : Outcome) → (f : Found) → place_of rules r n ≡ f → in_order rules (unless_refused o r store lent (collect_at rules r store n lent f)).service ≡ true
-          go (Refused code) f p = ordered
-          go Accepted Nothing p = ordered
-          go Accepted (At i) p = emptied_keeps i (place_found rules workable r n i p).0
+          go : (o : Outcome) → (f : Option ℕ) → place_of rules r n ≡ f → in_order rules (unless_refused o r store lent (collect_at rules r store n lent f)).service ≡ true
+          go (Err code) f p = ordered
+          go (Ok done) None p = ordered
+          go (Ok done) (Some i) p = emptied_keeps i (place_found rules workable r n i p).0
 
       withdraw_keeps : (n : ℕ) → in_order rules (withdraw_of rules r store n).service ≡ true
       unfolding withdraw_of
       withdraw_keeps n = go (withdraw_checks rules r n) (place_of rules r n) refl
         where
-          go : (o : Outcome) → (f : Found) → place_of rules r n ≡ f → in_order rules (unless_refused o r store [] (withdraw_at r store n f)).service ≡ true
-          go (Refused code) f p = ordered
-          go Accepted Nothing p = ordered
-          go Accepted (At i) p = emptied_keeps i (place_found rules workable r n i p).0
+          go : (o : Outcome) → (f : Option ℕ) → place_of rules r n ≡ f → in_order rules (unless_refused o r store [] (withdraw_at r store n f)).service ≡ true
+          go (Err code) f p = ordered
+          go (Ok done) None p = ordered
+          go (Ok done) (Some i) p = emptied_keeps i (place_found rules workable r n i p).0
 
 pub stays_in_order : (rules : Rules) → Workable rules → (r : Service) → length r.slots ≡ rules.slot_count → in_order rules r ≡ true
     → (store : List ℕ) (c : Call) → in_order rules (call_of rules r store c).service ≡ true

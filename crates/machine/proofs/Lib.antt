@@ -25,3 +25,4 @@ pub mod Lines
 pub mod Worked
 pub mod Kept
 pub mod Commutes
+pub mod Mapped

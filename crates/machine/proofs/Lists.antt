@@ -9,10 +9,6 @@ use native.Mathlib.Nat.{le_trans, le_of_eq}
 use native.Mathlib.Omega.{arith}
 use borrow.Author.Tests.{ne_eqb}
 use lib.ListN.{length, get_or, replicate, length-replicate}
-use Rattle.limits.specs.declared.Outcome.{Outcome}
-use Rattle.limits.specs.declared.Outcome.TheVariants as O
-use Rattle.machine.specs.declared.Answer.{Answer}
-use Rattle.machine.specs.declared.Answer.TheVariants.{Job, Idle, Refused}
 use Rattle.machine.specs.Rules.{Rules}
 use Rattle.machine.specs.Slots.{empty_slot, is_empty}
 use Rattle.machine.specs.Store.{store_length, Workable}
@@ -26,15 +22,19 @@ use Rattle.machine.proofs.Served.{Served, Effect, still, sets}
 use Rattle.machine.proofs.Submits.{submits}
 use Rattle.machine.proofs.Ticks.{Ticked, idled, served, ticked}
 use Rattle.machine.proofs.Ends.{withdraws, collects}
+use Rattle.std.specs.Prelude.{Ok, Err}
+use Rattle.limits.specs.Errors.{Outcome}
+use Rattle.machine.specs.declared.Answer.TheVariants.{Job, Idle}
+use Rattle.machine.specs.Answers.{Answered}
 
 -- every call, by what it is
-pub answers : (p : Place) → Invariant p → (c : Call) → (a : Answer) × Served p c a
+pub answers : (p : Place) → Invariant p → (c : Call) → (a : Answered) × Served p c a
 answers p v (submit choice shape k w h pixels) = (submit_answer p.rules p.history shape k w h pixels, submits p v choice shape k w h pixels)
 answers p v tick = go (ticked p v)
   where
-    go : Ticked p v → (a : Answer) × Served p tick a
-    go (idled e s n) = (Idle, s)
-    go (served i n e h s x l t d) = (Job n, d)
+    go : Ticked p v → (a : Answered) × Served p tick a
+    go (idled e s n) = (Ok Idle, s)
+    go (served i n e h s x l t d) = (Ok (Job n), d)
 answers p v (collect n lent) = (collect_answer p.history n lent, collects p v n lent)
 answers p v (withdraw n) = (withdraw_answer p.history n, withdraws p v n)
 
@@ -90,8 +90,8 @@ opened_invariant rules workable store e =
 
 -- ---- numbers are never given again
 unless_other : (o : Outcome) (n m : ℕ) → (m ≡ n → ⊥) → answers_number (number_unless o m) n ≡ false
-unless_other O.Accepted n m ne = ne_eqb m n ne
-unless_other (O.Refused code) n m ne = refl
+unless_other (Ok done) n m ne = ne_eqb m n ne
+unless_other (Err code) n m ne = refl
 
 pub not_restarted : (p : Place) → Invariant p → (c : Call) (n : ℕ) → n ≤ job_count p.history → starts (event_of p c) n ≡ false
 not_restarted p v (submit choice shape k w h pixels) n l =

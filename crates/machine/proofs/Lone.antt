@@ -9,9 +9,7 @@ use native.Mathlib.Omega.{arith}
 use borrow.Author.Tests.{eq-eqb, lt-ltb}
 use lib.Dec.{eqb}
 use lib.ListN.{length, replicate}
-use Rattle.limits.specs.declared.Outcome.TheVariants as O
 use Rattle.kernel.specs.declared.Choice.{Choice}
-use Rattle.machine.specs.declared.Answer.TheVariants.{Job}
 use Rattle.machine.specs.Rules.{Rules}
 use Rattle.machine.specs.Store.{store_length, Workable}
 use Rattle.machine.specs.Calls.{Call, submit, tick, collect}
@@ -23,6 +21,8 @@ use Rattle.machine.proofs.Submits.{submits}
 use Rattle.machine.proofs.Ticks.{Ticked, idled, served, ticked}
 use Rattle.machine.proofs.Ends.{collects, hands_over}
 use Rattle.machine.proofs.Lists.{opened_invariant, next_invariant}
+use Rattle.std.specs.Prelude.{Ok}
+use Rattle.machine.specs.declared.Answer.TheVariants.{Job}
 
 -- job 1 alone, after so many ticks
 record Lone (p : Place) (j : Submitted) (t : ℕ) : Type 0 where
@@ -43,12 +43,12 @@ module _ (j : Submitted) (fine : JobFine j) where
   abbrev first : Call
   first = submit j.choice j.shape j.steps j.width j.height j.picture
 
-  outcome : submit_outcome rules [] j.shape j.steps j.width j.height j.picture ≡ O.Accepted
+  outcome : submit_outcome rules [] j.shape j.steps j.width j.height j.picture ≡ Ok tt
   unfolding numbers how_many
   outcome = rw (fine.variances, fine.direction, fine.steps, fine.sides, eq-eqb (length j.picture) (j.width * j.height) fine.full, fine.fits, fine.kernel, lt-ltb 0 rules.slot_count workable.some_slot)
 
   module _ (store : List ℕ) (long : length store ≡ store_length) where
-    answered : answer_at (opened rules store) first ≡ Job 1
+    answered : answer_at (opened rules store) first ≡ Ok (Job 1)
     unfolding numbers
     answered =
         (submits (opened rules store) (opened_invariant rules workable store long) j.choice j.shape j.steps j.width j.height j.picture).answered
@@ -94,12 +94,12 @@ module _ (j : Submitted) (fine : JobFine j) where
     left_is : steps_left p.history 1 ≡ j.steps - t
     left_is = rw (l.job, l.ticks)
 
-    ticked_it : Ticked p l.holds → answer_at p tick ≡ Job 1
+    ticked_it : Ticked p l.holds → answer_at p tick ≡ Ok (Job 1)
     ticked_it (idled e s none) = absurd (let z = none 1 l.is_held in let y = left_is in omega arith)
     ticked_it (served i n e h s u g turn done) =
-        done.answered ∙ ap Job (let a = s.known in let b = s.positive in let y : n ≡ 1 = omega (arith, l.jobs) in y)
+        done.answered ∙ ap (λ n. Ok (Job n)) (let a = s.known in let b = s.positive in let y : n ≡ 1 = omega (arith, l.jobs) in y)
 
-    answer : answer_at p tick ≡ Job 1
+    answer : answer_at p tick ≡ Ok (Job 1)
     answer = ticked_it (ticked p l.holds)
 
     same_numbers : numbers (next p tick).history ≡ numbers p.history
@@ -144,7 +144,7 @@ module _ (j : Submitted) (fine : JobFine j) where
       left_none : eqb (steps_left end.history 1) 0 ≡ true
       left_none = rw (finished.job, finished.ticks) (eq-eqb (j.steps - (0 + j.steps)) 0 (omega arith))
 
-      pub lone_answer : answer_at end (collect 1 mine) ≡ Job 1
+      pub lone_answer : answer_at end (collect 1 mine) ≡ Ok (Job 1)
       lone_answer =
           (collects end finished.holds 1 mine).answered
           ∙ rw (finished.is_held, left_none, finished.job, eq-eqb (length mine) (j.width * j.height) size)

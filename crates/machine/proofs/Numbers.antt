@@ -1,19 +1,13 @@
 -- The calls in REFERENCE's numbers, by cases of what their checks come to, by any rules; and demand 3 in these numbers, from its
 -- fields alone, by REFERENCE's rules, since 8, 2 and 16 are theirs. Assumes nothing.
 use mathlib.Core.Path.{◌≡◌, refl, sym, ◌∙◌, ap, ap₂, subst}
-use mathlib.Core.Logic.{◌⊎◌, inl, inr, ⊎_elim}
+use mathlib.Core.Logic.{inl, inr, ⊎_elim}
 use mathlib.Core.List.{List, [], ◌∷◌}
 use Prim.Native.Nat.{ℕ, ◌+◌, ◌-◌, ◌*◌, ◌≤◌}
 use native.Mathlib.Omega.{arith}
 use lib.ListN.{length}
-use Rattle.limits.specs.Errors.{outcome_number}
-use Rattle.limits.specs.declared.Outcome.{Outcome}
-use Rattle.limits.specs.declared.Outcome.TheVariants as O
+use Rattle.limits.specs.Errors.{Outcome, outcome_number}
 use Rattle.machine.specs.declared.Service.{Service}
-use Rattle.machine.specs.declared.Answer.{Answer}
-use Rattle.machine.specs.declared.FreeCount.TheVariants.{Buffers}
-use Rattle.machine.specs.declared.Found.{Found}
-use Rattle.machine.specs.declared.Found.TheVariants.{At, Nothing}
 use Rattle.machine.specs.Answers.{answer_number, answer_values, count_number, count_values}
 use Rattle.machine.specs.Rules.{Rules, base_rules, choice_rules}
 use Rattle.machine.specs.Store.{Workable}
@@ -24,25 +18,27 @@ use Rattle.machine.specs.Numbers.{values_unless, AnswerIs, tick_values, CallsInN
 use Rattle.machine.proofs.Finds.{submit_answers, collect_answers, withdraw_answers}
 use Rattle.machine.proofs.Lists.{after_numbers}
 use Rattle.machine.proofs.Theorem.{demand_3}
+use Rattle.std.specs.Prelude.{Option, Some, None, Ok, Err}
+use Rattle.machine.specs.Answers.{Answered}
 
-answers_as : (a : Answer) (o : Outcome) (n : ℕ) → a ≡ number_unless o n → AnswerIs a o n
-answers_as a O.Accepted n e = record { number = ap answer_number e; values = ap answer_values e }
-answers_as a (O.Refused code) n e = record { number = ap answer_number e; values = ap answer_values e }
+answers_as : (a : Answered) (o : Outcome) (n : ℕ) → a ≡ number_unless o n → AnswerIs a o n
+answers_as a (Ok done) n e = record { number = ap answer_number e; values = ap answer_values e }
+answers_as a (Err code) n e = record { number = ap answer_number e; values = ap answer_values e }
 
 -- ---- at any record and any store
 module _ (rules : Rules) (workable : Workable rules) (r : Service) (store : List ℕ) where
-  tick_is : (o : Outcome) (f : Found) → tick_checks rules r store ≡ o → served_place rules r ≡ f
+  tick_is : (o : Outcome) (f : Option ℕ) → tick_checks rules r store ≡ o → served_place rules r ≡ f
       → (answer_number (tick_of rules r store).answer ≡ outcome_number o) × (answer_values (tick_of rules r store).answer ≡ tick_values r o f)
   unfolding tick_of
-  tick_is O.Accepted (At i) e g = rw (e, g) (refl, refl)
-  tick_is O.Accepted Nothing e g = rw (e, g) (refl, refl)
-  tick_is (O.Refused code) f e g = rw e (refl, refl)
+  tick_is (Ok done) (Some i) e g = rw (e, g) (refl, refl)
+  tick_is (Ok done) None e g = rw (e, g) (refl, refl)
+  tick_is (Err code) f e g = rw e (refl, refl)
 
   count_is : (o : Outcome) → count_checks rules r ≡ o
       → (count_number (free_count_of rules r) ≡ outcome_number o) × (count_values (free_count_of rules r) ≡ values_unless o (free_buffers rules r))
   unfolding free_count_of
-  count_is O.Accepted e = rw e (refl, refl)
-  count_is (O.Refused code) e = rw e (refl, refl)
+  count_is (Ok done) e = rw e (refl, refl)
+  count_is (Err code) e = rw e (refl, refl)
 
   pub calls_in_numbers : CallsInNumbers rules r store
   calls_in_numbers =
@@ -62,8 +58,8 @@ some_value : (n : ℕ) → n ∷ [] ≡ [] → ⊥
 some_value n e = let z = ap length e in omega arith
 
 module _ (p : Place) (d : AtPlace p) (slots : p.rules.slot_count ≡ 8) (buffers : p.rules.buffers_per_slot ≡ 2) where
-  free_is : free_count_of p.rules p.service ≡ Buffers (16 - 2 * held_count p.history)
-  free_is = d.free_buffers_are ∙ ap₂ (λ s b. Buffers (s * b - b * held_count p.history)) slots buffers
+  free_is : free_count_of p.rules p.service ≡ Ok (16 - 2 * held_count p.history)
+  free_is = d.free_buffers_are ∙ ap₂ (λ s b. Ok (s * b - b * held_count p.history)) slots buffers
 
   held_at_most : held_count p.history ≤ 8
   held_at_most = subst (λ n. held_count p.history ≤ n) slots d.at_most_all_slots

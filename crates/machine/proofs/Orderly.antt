@@ -12,7 +12,6 @@ use Rattle.kernel.specs.Molecule.{units_of}
 use Rattle.kernel.specs.Existence.{kernel_exists}
 use Rattle.machine.specs.declared.Slot.{Slot}
 use Rattle.machine.specs.declared.Service.{Service}
-use Rattle.machine.specs.declared.Found.TheVariants.{At, Nothing}
 use Rattle.machine.specs.Rules.{Rules}
 use Rattle.machine.specs.Slots.{slot_at, is_empty, has_steps_left, has_number, next_place, first_from, count_of, every_slot}
 use Rattle.machine.specs.Store.{Workable}
@@ -20,6 +19,7 @@ use Rattle.machine.specs.Calls.{empty_place, served_place, place_of}
 use Rattle.machine.proofs.Search.{hit, found, distance, next_lt}
 use Rattle.machine.proofs.Counts.{some_empty, every_each, every_made}
 use Rattle.machine.specs.Order.{FilledSlot, is_zero, free_zero, free_fine, all_zero, filled_fine, unshared, slot_fine, in_order}
+use Rattle.std.specs.Prelude.{Some, None}
 
 module _ (rules : Rules) (r : Service) (ordered : in_order rules r ≡ true) where
   parts : (every_slot (slot_fine rules r) r.slots rules.slot_count ≡ true) × ((ltb r.filled rules.slot_count && ltb r.served rules.slot_count) ≡ true)
@@ -88,7 +88,7 @@ order_made rules r f s fine =
 -- ---- what the calls' searches find: a slot, and one that passes
 module _ (rules : Rules) (workable : Workable rules) (r : Service) where
   -- in a search over all slots from the one after a place on
-  found_from : (test : Slot → Bool) (from i : ℕ) → first_from test r.slots rules.slot_count (next_place rules.slot_count from) rules.slot_count ≡ At i
+  found_from : (test : Slot → Bool) (from i : ℕ) → first_from test r.slots rules.slot_count (next_place rules.slot_count from) rules.slot_count ≡ Some i
       → (i < rules.slot_count) × (test (slot_at r i) ≡ true)
   found_from test from i e =
       let size = rules.slot_count in
@@ -96,7 +96,7 @@ module _ (rules : Rules) (workable : Workable rules) (r : Service) where
       found test r.slots size some size (next_place size from) i (next_lt size from some) e
 
   -- where fewer slots are filled than there are, an empty one is found
-  pub empty_there : count_of (λ s. not (is_empty s)) r.slots rules.slot_count < rules.slot_count → (i : ℕ) × (empty_place rules r ≡ At i)
+  pub empty_there : count_of (λ s. not (is_empty s)) r.slots rules.slot_count < rules.slot_count → (i : ℕ) × (empty_place rules r ≡ Some i)
   empty_there few =
       let size = rules.slot_count in
       let from = next_place size r.filled in
@@ -106,16 +106,16 @@ module _ (rules : Rules) (workable : Workable rules) (r : Service) where
       let g = hit is_empty r.slots size s.0 s.2 s.1 size from d.0 start d.1 d.2 (omega arith) in
       (g.at, g.is)
 
-  pub empty_found : (i : ℕ) → empty_place rules r ≡ At i → (i < rules.slot_count) × ((slot_at r i).number ≡ 0)
+  pub empty_found : (i : ℕ) → empty_place rules r ≡ Some i → (i < rules.slot_count) × ((slot_at r i).number ≡ 0)
   empty_found i e = let w = found_from is_empty r.filled i e in (w.0, eqb-true (slot_at r i).number 0 w.1)
 
-  pub served_found : (i : ℕ) → served_place rules r ≡ At i → (i < rules.slot_count) × (0 < (slot_at r i).left)
+  pub served_found : (i : ℕ) → served_place rules r ≡ Some i → (i < rules.slot_count) × (0 < (slot_at r i).left)
   served_found i e = let w = found_from has_steps_left r.served i e in (w.0, ltb-true 0 (slot_at r i).left w.1)
 
-  pub place_found : (n i : ℕ) → place_of rules r n ≡ At i → (i < rules.slot_count) × ((slot_at r i).number ≡ n) × (n ≡ 0 → ⊥)
+  pub place_found : (n i : ℕ) → place_of rules r n ≡ Some i → (i < rules.slot_count) × ((slot_at r i).number ≡ n) × (n ≡ 0 → ⊥)
   place_found n i = go (eqb n 0) refl
     where
-      go : (t : Bool) → eqb n 0 ≡ t → cond t Nothing (first_from (has_number n) r.slots rules.slot_count 0 rules.slot_count) ≡ At i
+      go : (t : Bool) → eqb n 0 ≡ t → cond t None (first_from (has_number n) r.slots rules.slot_count 0 rules.slot_count) ≡ Some i
           → (i < rules.slot_count) × ((slot_at r i).number ≡ n) × (n ≡ 0 → ⊥)
       go true z e = absurd (let q : ◌≡◌ {A = ℕ} 0 1 = cc in omega arith)
       go false z e =

@@ -10,8 +10,8 @@ use lib.Dec.{ltb, eqb}
 use lib.ListN.{length, get_or, set}
 use lib.Seq.{get_or-set_same, get_or-set_other}
 use Rattle.machine.specs.declared.Slot.{Slot}
-use Rattle.machine.specs.declared.Found.TheVariants.{At, Nothing}
 use Rattle.machine.specs.Slots.{empty_slot, next_place, first_from, count_of}
+use Rattle.std.specs.Prelude.{Some, None}
 
 pub next_lt : (size i : ℕ) → 0 < size → next_place size i < size
 next_lt size i h = go (ltb (i + 1) size) refl
@@ -66,7 +66,7 @@ step_back size place i d p h a = go (next_is size place) a
 -- what a search finds: it passes the test, and is none further than i, which passes it too
 pub record Hit (test : Slot → Bool) (slots : List Slot) (size place n d : ℕ) : Type 0 where
   pub at : ℕ
-  pub is : first_from test slots size place n ≡ At at
+  pub is : first_from test slots size place n ≡ Some at
   pub passes : test (get_or slots at empty_slot) ≡ true
   pub below : at < size
   pub from : ℕ
@@ -102,19 +102,19 @@ hit test slots size i good h (suc n) place d p a l m = go (test (get_or slots pl
 
 -- what a search answers passes the test
 pub found : (test : Slot → Bool) (slots : List Slot) (size : ℕ) → 0 < size → (n place at : ℕ) → place < size
-    → first_from test slots size place n ≡ At at → (at < size) × (test (get_or slots at empty_slot) ≡ true)
+    → first_from test slots size place n ≡ Some at → (at < size) × (test (get_or slots at empty_slot) ≡ true)
 unfolding first_from
 found test slots size s zero place at p e = absurd (let z : ◌≡◌ {A = ℕ} 0 1 = cc in omega arith)
 found test slots size s (suc n) place at p e = go (test (get_or slots place empty_slot)) refl (found test slots size s n (next_place size place) at (next_lt size place s)) e
   where
     go : (t : Bool) → test (get_or slots place empty_slot) ≡ t
-        → (first_from test slots size (next_place size place) n ≡ At at → (at < size) × (test (get_or slots at empty_slot) ≡ true))
-        → cond t (At place) (first_from test slots size (next_place size place) n) ≡ At at → (at < size) × (test (get_or slots at empty_slot) ≡ true)
+        → (first_from test slots size (next_place size place) n ≡ Some at → (at < size) × (test (get_or slots at empty_slot) ≡ true))
+        → cond t (Some place) (first_from test slots size (next_place size place) n) ≡ Some at → (at < size) × (test (get_or slots at empty_slot) ≡ true)
     go true q f e = let w : place ≡ at = cc in (omega arith, rw w at q)
     go false q f e = f e
 
 -- a search over all slots that finds nothing: none passes
-pub nothing : (test : Slot → Bool) (slots : List Slot) (size place : ℕ) → place < size → first_from test slots size place size ≡ Nothing
+pub nothing : (test : Slot → Bool) (slots : List Slot) (size place : ℕ) → place < size → first_from test slots size place size ≡ None
     → (i : ℕ) → i < size → test (get_or slots i empty_slot) ≡ false
 nothing test slots size place p e i h = go (test (get_or slots i empty_slot)) refl
   where

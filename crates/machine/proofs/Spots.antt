@@ -23,9 +23,6 @@ use Rattle.averaging.proofs.Images.{length_image}
 use Rattle.averaging.proofs.Extrema.{bright_spots}
 use Rattle.machine.specs.declared.Slot.{Slot}
 use Rattle.machine.specs.declared.Service.{Service}
-use Rattle.machine.specs.declared.Answer.TheVariants.{Job}
-use Rattle.machine.specs.declared.Found.{Found}
-use Rattle.machine.specs.declared.Found.TheVariants.{At, Nothing}
 use Rattle.machine.specs.Rules.{Rules}
 use Rattle.machine.specs.Slots.{slot_at}
 use Rattle.machine.specs.Store.{store_length, Workable, buffer_after, pixel_count, steps_done, current_image}
@@ -39,6 +36,8 @@ use Rattle.machine.proofs.Invariant.{JobFine, fits_le}
 use Rattle.machine.proofs.Orderly.{filled_slot, left_filled, served_found}
 use Rattle.machine.proofs.Ends.{hands_over}
 use Rattle.machine.proofs.Lists.{after_invariant, opened_invariant}
+use Rattle.std.specs.Prelude.{Option, Some, None, Ok}
+use Rattle.machine.specs.declared.Answer.TheVariants.{Job}
 
 -- the kernel of a filled slot, by its f or, where the rules have none, by the smallest
 slot_sound : (rules : Rules) (last : ℕ) (s : Slot) → FilledSlot rules last s → Sound (kernel_of_slot rules s) s.steps
@@ -51,11 +50,11 @@ slot_sound rules last s filled = go rules.holds_choice filled.free
 
 module _ (rules : Rules) (workable : Workable rules) (r : Service) (store : List ℕ) where
   -- one step of slot i
-  module _ (fine : usable rules r store ≡ true) (i : ℕ) (served : served_place rules r ≡ At i) where
+  module _ (fine : usable rules r store ≡ true) (i : ℕ) (served : served_place rules r ≡ Some i) where
     abbrev slot : Slot
     slot = slot_at r i
 
-    tick_is : tick_of rules r store ≡ tick_at rules r store (At i)
+    tick_is : tick_of rules r store ≡ tick_at rules r store (Some i)
     unfolding tick_of
     tick_is = rw (fine, served)
 
@@ -87,16 +86,16 @@ module _ (rules : Rules) (workable : Workable rules) (r : Service) (store : List
 
   -- WHAT A TICK WRITES: where a tick answers a job number, the job's slot has gone from one picture to the next like that, whatever the
   -- record and the store held
-  pub tick_enhances_none : (n : ℕ) → (tick_of rules r store).answer ≡ Job n → (i : ℕ) × (i < rules.slot_count) × ((slot_at r i).number ≡ n) × TickEnhancesNone rules r store i
+  pub tick_enhances_none : (n : ℕ) → (tick_of rules r store).answer ≡ Ok (Job n) → (i : ℕ) × (i < rules.slot_count) × ((slot_at r i).number ≡ n) × TickEnhancesNone rules r store i
   unfolding tick_of
   tick_enhances_none n e = go (usable rules r store) refl (served_place rules r) refl e
     where
-      go : (t : Bool) → usable rules r store ≡ t → (f : Found) → served_place rules r ≡ f → (tick_of rules r store).answer ≡ Job n
+      go : (t : Bool) → usable rules r store ≡ t → (f : Option ℕ) → served_place rules r ≡ f → (tick_of rules r store).answer ≡ Ok (Job n)
           → (i : ℕ) × (i < rules.slot_count) × ((slot_at r i).number ≡ n) × TickEnhancesNone rules r store i
-      go true u (At i) s e =
-          let number : Job (slot_at r i).number ≡ Job n = sym (ap (λ (x : Result). x.answer) (tick_is u i s)) ∙ e in
+      go true u (Some i) s e =
+          let number : Ok (Job (slot_at r i).number) ≡ Ok (Job n) = sym (ap (λ (x : Result). x.answer) (tick_is u i s)) ∙ e in
           (i, (at u i s).0, cc, step_of_slot u i s)
-      go true u Nothing s e = let none = rw (u, s) at e in absurd (let z : ◌≡◌ {A = ℕ} 0 1 = cc in omega arith)
+      go true u None s e = let none = rw (u, s) at e in absurd (let z : ◌≡◌ {A = ℕ} 0 1 = cc in omega arith)
       go false u f s e = let none = rw u at e in absurd (let z : ◌≡◌ {A = ℕ} 0 1 = cc in omega arith)
 
 -- ---- pictures that collects hand over, in whichever lists of calls

@@ -4,25 +4,21 @@ use mathlib.Core.Path.{◌≡◌, refl, sym, ◌∙◌, ap}
 use mathlib.Core.Bool.{Bool, true, false, true≢false}
 use mathlib.Core.Logic.{inl, inr, ⊎_elim}
 use mathlib.Core.List.{List, [], ◌∷◌}
-use Prim.Native.Nat.{ℕ, suc, ◌+◌, ◌-◌, ◌*◌, ◌≤◌, ◌<◌}
+use Prim.Native.Nat.{ℕ, suc, ◌+◌, ◌*◌, ◌≤◌, ◌<◌}
 use native.Mathlib.Nat.{sub-zero}
 use native.Mathlib.Numerals.{add-one}
 use native.Mathlib.Omega.{arith}
 use borrow.Author.Tests.{eq-eqb, ne_eqb, eqb-true, ltb-true}
 use lib.Dec.{eqb, ltb}
 use lib.ListN.{length}
-use Rattle.limits.specs.Errors.{Check, ◌otherwise◌, first_refusal}
+use Rattle.limits.specs.Errors.{Outcome, Check, ◌otherwise◌, first_refusal}
 use Rattle.limits.specs.Limits.{buffer_pixels}
-use Rattle.limits.specs.declared.Outcome.{Outcome}
-use Rattle.limits.specs.declared.Outcome.TheVariants as O
 use Rattle.limits.specs.declared.ErrorCode.{ErrorCode}
 use Rattle.limits.specs.declared.ErrorCode.TheVariants.{NoFreeBuffers, NumbersUsedUp}
 use Rattle.kernel.specs.declared.Choice.{Choice}
 use Rattle.covariance.specs.declared.Shape.{Shape}
 use Rattle.covariance.specs.Shapes.{covariance_xx, covariance_xy, covariance_yy}
 use Rattle.averaging.specs.Steps.{iterate}
-use Rattle.machine.specs.declared.Answer.TheVariants.{Job, Refused}
-use Rattle.machine.specs.declared.Found.TheVariants.{At}
 use Rattle.machine.specs.Slots.{slot_at}
 use Rattle.machine.specs.Store.{put, buffer_after}
 use Rattle.machine.specs.Calls.{submit, Result, empty_place, last_number, free_buffers, choice_by, submitted_checks, submit_checks, new_slot, submit_at, submit_of}
@@ -35,6 +31,8 @@ use Rattle.machine.proofs.Rules.{block, within_block, from_block, in_store, free
 use Rattle.machine.proofs.Orderly.{empty_there, empty_found}
 use Rattle.machine.proofs.Invariant.{Invariant, size, Sits, JobFine, Change, changed, is_usable, fits_le, choice_twice, free_of_choice}
 use Rattle.machine.proofs.Served.{Served, sets, refused_call}
+use Rattle.std.specs.Prelude.{Some, Ok, Err}
+use Rattle.machine.specs.declared.Answer.TheVariants.{Job}
 
 module _ (p : Place) (v : Invariant p) (choice : Choice) (shape : Shape) (k w h : ℕ) (pixels : List ℕ) where
   -- the checks, with what the calls and answers say in the place of the record
@@ -54,7 +52,7 @@ module _ (p : Place) (v : Invariant p) (choice : Choice) (shape : Shape) (k w h 
   number = p.service.last + 1
 
   abbrev event : Event
-  event = record { rules = p.rules; call = submit choice shape k w h pixels; answer = Job number; lent = pixels }
+  event = record { rules = p.rules; call = submit choice shape k w h pixels; answer = Ok (Job number); lent = pixels }
 
   is_new : (n : ℕ) → (n ≡ number → ⊥) → Untouched event n
   is_new n ne = record { unstarted = ne_eqb number n (λ x. ne (sym x)); unserved = refl; unended = refl }
@@ -83,7 +81,7 @@ module _ (p : Place) (v : Invariant p) (choice : Choice) (shape : Shape) (k w h 
       (λ n g l. same_held event p.history n (is_new n (λ x. omega (arith, number_is)))))))
 
   -- ---- accepted
-  module _ (fine : checks ≡ O.Accepted) where
+  module _ (fine : checks ≡ Ok tt) where
     all : AllHold tests
     all = all_hold tests fine
 
@@ -108,7 +106,7 @@ module _ (p : Place) (v : Invariant p) (choice : Choice) (shape : Shape) (k w h 
         }
 
     -- the empty slot that is found where fewer jobs are held than there are slots
-    spot : (i : ℕ) × (empty_place p.rules p.service ≡ At i)
+    spot : (i : ℕ) × (empty_place p.rules p.service ≡ Some i)
     spot =
         empty_there p.rules v.workable p.service
         (rw v.counted (ltb-true (held_count p.history) (size p) all.1.1.1.1.1.1.1.0))
@@ -116,7 +114,7 @@ module _ (p : Place) (v : Invariant p) (choice : Choice) (shape : Shape) (k w h 
     is_empty_lem : (spot.0 < size p) × ((slot_at p.service spot.0).number ≡ 0)
     is_empty_lem = empty_found p.rules v.workable p.service spot.0 spot.1
 
-    result : submit_of p.rules p.service p.store choice shape k w h pixels ≡ submit_at p.rules p.service p.store choice shape k w h pixels (At spot.0)
+    result : submit_of p.rules p.service p.store choice shape k w h pixels ≡ submit_at p.rules p.service p.store choice shape k w h pixels (Some spot.0)
     unfolding submit_of
     result = rw (checks_are, fine, spot.1)
 
@@ -172,24 +170,24 @@ module _ (p : Place) (v : Invariant p) (choice : Choice) (shape : Shape) (k w h 
             (λ z. let q = sym (ap (λ s. s.number) z.1.is) ∙ w.2 in absurd (omega (arith, z.1.known, number_is))) (v.taken w.0 w.1)
         go false e = e
 
-    submit_accepted : Served p (submit choice shape k w h pixels) (Job (job_count p.history + 1))
+    submit_accepted : Served p (submit choice shape k w h pixels) (Ok (Job (job_count p.history + 1)))
     submit_accepted =
         record {
-          answered = ap (λ (r : Result). r.answer) result ∙ ap Job (ap (λ n. n + 1) v.last);
+          answered = ap (λ (r : Result). r.answer) result ∙ ap (λ n. Ok (Job n)) (ap (λ n. n + 1) v.last);
           keeps = changed p v (submit choice shape k w h pixels) spot.0 number (new_slot p.rules number choice shape k w h) change;
           effect = sets spot.0 number (new_slot p.rules number choice shape k w h) change (inl unheld);
           turn = λ t. ap (λ (r : Result). r.service.served) result;
           unchanged = λ e. absurd (true≢false (sym (ap (λ (r : Result). accepts r.answer) result) ∙ e));
         }
 
-  refused : (code : ErrorCode) → checks ≡ O.Refused code
-      → submit_of p.rules p.service p.store choice shape k w h pixels ≡ record { answer = Refused code; service = p.service; store = p.store; lent = pixels }
+  refused : (code : ErrorCode) → checks ≡ Err code
+      → submit_of p.rules p.service p.store choice shape k w h pixels ≡ record { answer = Err code; service = p.service; store = p.store; lent = pixels }
   unfolding submit_of
   refused code e = rw (checks_are, e)
 
   submits_when : (o : Outcome) → checks ≡ o → Served p (submit choice shape k w h pixels) (number_unless o (job_count p.history + 1))
-  submits_when O.Accepted e = submit_accepted e
-  submits_when (O.Refused code) e = refused_call p v (submit choice shape k w h pixels) code (refused code e)
+  submits_when (Ok done) e = submit_accepted e
+  submits_when (Err code) e = refused_call p v (submit choice shape k w h pixels) code (refused code e)
 
   pub submits : Served p (submit choice shape k w h pixels) (submit_answer p.rules p.history shape k w h pixels)
   submits = submits_when checks refl

@@ -10,8 +10,6 @@ use Rattle.kernel.proofs.Theorems.{sound_by}
 use Rattle.covariance.specs.Shapes.{covariance_xx, covariance_xy, covariance_yy}
 use Rattle.averaging.specs.Distances.{Entrywise, Distance}
 use Rattle.averaging.proofs.Distance.{distance}
-use Rattle.machine.specs.declared.Answer.TheVariants.{Job, Idle}
-use Rattle.machine.specs.declared.FreeCount.TheVariants.{Buffers}
 use Rattle.machine.specs.Rules.{Rules, base_rules, choice_rules}
 use Rattle.machine.specs.Slots.{is_empty, next_place}
 use Rattle.machine.specs.Store.{buffer_count, Workable}
@@ -29,8 +27,11 @@ use Rattle.machine.proofs.Ends.{seated, withdraws, collects, hands_over}
 use Rattle.machine.proofs.Lists.{answers, after_invariant, opened_invariant, stays_finished}
 use Rattle.machine.proofs.Lone.{lone_accepted, lone_answer, lone_picture}
 use Rattle.machine.proofs.Wait.{waits}
+use Rattle.std.specs.Prelude.{Ok}
+use Rattle.machine.specs.declared.Answer.TheVariants.{Job, Idle}
+use Rattle.machine.specs.Answers.{Answered}
 
-idle_no_job : (n : ℕ) → Job n ≡ Idle → ⊥
+idle_no_job : (n : ℕ) → ◌≡◌ {A = Answered} (Ok (Job n)) (Ok Idle) → ⊥
 idle_no_job n e = let z : ◌≡◌ {A = ℕ} 0 1 = cc in omega arith
 
 -- the lone run lies within half a unit for each step of the exact one
@@ -41,18 +42,18 @@ near_exact j f =
     j.width j.height j.picture f.full j.steps
 
 module _ (p : Place) (v : Invariant p) where
-  idle_exactly : (answer_at p tick ≡ Idle) ↔ ((n : ℕ) → held p.history n ≡ true → finished p.history n ≡ true)
+  idle_exactly : (answer_at p tick ≡ Ok Idle) ↔ ((n : ℕ) → held p.history n ≡ true → finished p.history n ≡ true)
   idle_exactly = (only (ticked p v), always (ticked p v))
     where
-      only : Ticked p v → answer_at p tick ≡ Idle → (n : ℕ) → held p.history n ≡ true → finished p.history n ≡ true
+      only : Ticked p v → answer_at p tick ≡ Ok Idle → (n : ℕ) → held p.history n ≡ true → finished p.history n ≡ true
       only (idled e s none) a = λ n h. eq-eqb (steps_left p.history n) 0 (none n h)
       only (served i n e h s u l t d) a = absurd (idle_no_job n (sym d.answered ∙ a))
 
-      always : Ticked p v → ((n : ℕ) → held p.history n ≡ true → finished p.history n ≡ true) → answer_at p tick ≡ Idle
+      always : Ticked p v → ((n : ℕ) → held p.history n ≡ true → finished p.history n ≡ true) → answer_at p tick ≡ Ok Idle
       always (idled e s none) f = s.answered
       always (served i n e h s u l t d) f = absurd (let z = eqb-true (steps_left p.history n) 0 (f n s.is_held) in omega arith)
 
-  serves_one : Ticked p v → (answer_at p tick ≡ Idle) ⊎ ((n : ℕ) × (answer_at p tick ≡ Job n) × (held p.history n ≡ true) × (0 < steps_left p.history n))
+  serves_one : Ticked p v → (answer_at p tick ≡ Ok Idle) ⊎ ((n : ℕ) × (answer_at p tick ≡ Ok (Job n)) × (held p.history n ≡ true) × (0 < steps_left p.history n))
   serves_one (idled e s none) = inl s.answered
   serves_one (served i n e h s u l t d) = inr (n, d.answered, s.is_held, l)
 
@@ -67,7 +68,7 @@ module _ (p : Place) (v : Invariant p) where
       (omega (arith, d.2)))
 
   -- what a collect hands over, with what its job gets alone
-  hands : (n : ℕ) (lent : List ℕ) → answer_at p (collect n lent) ≡ Job n → AsAlone (job_of p.history n) (handed_over p n lent)
+  hands : (n : ℕ) (lent : List ℕ) → answer_at p (collect n lent) ≡ Ok (Job n) → AsAlone (job_of p.history n) (handed_over p n lent)
   hands n lent a =
       let job = job_of p.history n in
       let w = hands_over p v n lent a in
@@ -83,7 +84,7 @@ module _ (p : Place) (v : Invariant p) where
             };
       }
 
-  free_is : free_count_of p.rules p.service ≡ Buffers (buffer_count p.rules - p.rules.buffers_per_slot * held_count p.history)
+  free_is : free_count_of p.rules p.service ≡ Ok (buffer_count p.rules - p.rules.buffers_per_slot * held_count p.history)
   unfolding free_count_of free_buffers
   free_is = rw (in_order_lem p v, v.counted)
 

@@ -15,9 +15,6 @@ use Rattle.limits.specs.Limits.{buffer_pixels}
 use Rattle.averaging.specs.Steps.{step_of, iterate}
 use Rattle.averaging.proofs.Images.{length_image}
 use Rattle.machine.specs.declared.Slot.{Slot}
-use Rattle.machine.specs.declared.Answer.TheVariants.{Job, Idle}
-use Rattle.machine.specs.declared.Found.{Found}
-use Rattle.machine.specs.declared.Found.TheVariants.{At, Nothing}
 use Rattle.machine.specs.Slots.{slot_at, is_empty, has_steps_left, next_place}
 use Rattle.machine.specs.Store.{part, put, buffer_after, steps_done}
 use Rattle.machine.specs.Calls.{tick, Result, tick_at, tick_of, served_place, stepped_slot, next_image}
@@ -29,17 +26,19 @@ use Rattle.machine.proofs.Rules.{block, within_block, from_block, in_store}
 use Rattle.machine.proofs.Orderly.{served_found}
 use Rattle.machine.proofs.Invariant.{Invariant, size, Sits, slot_of, Change, changed, is_usable, fits_le, own_kernel}
 use Rattle.machine.proofs.Served.{Served, sets, idle_call}
+use Rattle.std.specs.Prelude.{Option, Some, None, Ok}
+use Rattle.machine.specs.declared.Answer.TheVariants.{Job, Idle}
 
 module _ (p : Place) (v : Invariant p) where
-  tick_is : (f : Found) → served_place p.rules p.service ≡ f → tick_of p.rules p.service p.store ≡ tick_at p.rules p.service p.store f
+  tick_is : (f : Option ℕ) → served_place p.rules p.service ≡ f → tick_of p.rules p.service p.store ≡ tick_at p.rules p.service p.store f
   unfolding tick_of
   tick_is f e = rw (is_usable p v, e)
 
   -- ---- idle
-  idle : served_place p.rules p.service ≡ Nothing → Served p tick Idle
-  idle e = idle_call p v tick Idle refl (tick_is Nothing e)
+  idle : served_place p.rules p.service ≡ None → Served p tick (Ok Idle)
+  idle e = idle_call p v tick (Ok Idle) refl (tick_is None e)
 
-  none_left : served_place p.rules p.service ≡ Nothing → (n : ℕ) → held p.history n ≡ true → steps_left p.history n ≡ 0
+  none_left : served_place p.rules p.service ≡ None → (n : ℕ) → held p.history n ≡ true → steps_left p.history n ≡ 0
   none_left e n h =
       let w = v.placed n h in
       let i = w.0 in
@@ -53,7 +52,7 @@ module _ (p : Place) (v : Invariant p) where
       (v.taken i w.1)
 
   -- ---- one step of the job in slot i
-  module _ (i n : ℕ) (at : i < size p) (e : served_place p.rules p.service ≡ At i) (left : 0 < (slot_at p.service i).left)
+  module _ (i n : ℕ) (at : i < size p) (e : served_place p.rules p.service ≡ Some i) (left : 0 < (slot_at p.service i).left)
       (s : Sits p.rules p.history p.store i n (slot_at p.service i)) where
     abbrev job : Submitted
     job = job_of p.history n
@@ -62,7 +61,7 @@ module _ (p : Place) (v : Invariant p) where
     done = ticks_of p.history n
 
     abbrev event : Event
-    event = record { rules = p.rules; call = tick; answer = Job (slot_at p.service i).number; lent = [] }
+    event = record { rules = p.rules; call = tick; answer = Ok (Job (slot_at p.service i).number); lent = [] }
 
     number : (slot_at p.service i).number ≡ n
     number = ap (λ (s : Slot). s.number) s.is
@@ -103,12 +102,12 @@ module _ (p : Place) (v : Invariant p) where
 
     result : tick_of p.rules p.service p.store
         ≡ record {
-          answer = Job (slot_at p.service i).number;
-          service = (tick_at p.rules p.service p.store (At i)).service;
+          answer = Ok (Job (slot_at p.service i).number);
+          service = (tick_at p.rules p.service p.store (Some i)).service;
           store = store_now;
           lent = [];
         }
-    result = tick_is (At i) e ∙ rw (next_is, steps_done_lem)
+    result = tick_is (Some i) e ∙ rw (next_is, steps_done_lem)
 
     room : buffer_after p.rules i (done + 1) + length image ≤ length p.store
     room = rw (length_now, v.long) (in_store p.rules v.workable i (done + 1) (job.width * job.height) at small)
@@ -166,10 +165,10 @@ module _ (p : Place) (v : Invariant p) where
     pub serves_now : serves (event_of p tick) n ≡ true
     serves_now = rw result serves_it
 
-    stepped : Served p tick (Job n)
+    stepped : Served p tick (Ok (Job n))
     stepped =
         record {
-          answered = ap (λ (r : Result). r.answer) result ∙ ap Job number;
+          answered = ap (λ (r : Result). r.answer) result ∙ ap (λ n. Ok (Job n)) number;
           keeps = changed p v tick i n (stepped_slot (slot_at p.service i)) change;
           effect = sets i n (stepped_slot (slot_at p.service i)) change (inr (inr serves_now));
           turn = λ t. absurd (omega arith);
@@ -178,16 +177,16 @@ module _ (p : Place) (v : Invariant p) where
 
   -- what a tick does
   pub data Ticked : Type 0 where
-    idled : served_place p.rules p.service ≡ Nothing → Served p tick Idle → ((n : ℕ) → held p.history n ≡ true → steps_left p.history n ≡ 0) → Ticked
-    served : (i n : ℕ) → served_place p.rules p.service ≡ At i → i < size p → Sits p.rules p.history p.store i n (slot_at p.service i)
-        → Change p tick i n (stepped_slot (slot_at p.service i)) → 0 < steps_left p.history n → (next p tick).service.served ≡ i → Served p tick (Job n) → Ticked
+    idled : served_place p.rules p.service ≡ None → Served p tick (Ok Idle) → ((n : ℕ) → held p.history n ≡ true → steps_left p.history n ≡ 0) → Ticked
+    served : (i n : ℕ) → served_place p.rules p.service ≡ Some i → i < size p → Sits p.rules p.history p.store i n (slot_at p.service i)
+        → Change p tick i n (stepped_slot (slot_at p.service i)) → 0 < steps_left p.history n → (next p tick).service.served ≡ i → Served p tick (Ok (Job n)) → Ticked
 
   pub ticked : Ticked
   ticked = go (served_place p.rules p.service) refl
     where
-      go : (f : Found) → served_place p.rules p.service ≡ f → Ticked
-      go Nothing e = idled e (idle e) (none_left e)
-      go (At i) e =
+      go : (f : Option ℕ) → served_place p.rules p.service ≡ f → Ticked
+      go None e = idled e (idle e) (none_left e)
+      go (Some i) e =
           let w = served_found p.rules v.workable p.service i e in
           let l = w.1 in
           ⊎_elim

@@ -13,8 +13,6 @@ use lib.Dec.{eqb}
 use lib.Seq.{get_or-set_same, get_or-set_other}
 use Rattle.limits.specs.declared.ErrorCode.TheVariants.{StepsAreLeft}
 use Rattle.machine.specs.declared.Slot.{Slot}
-use Rattle.machine.specs.declared.Answer.TheVariants.{Refused}
-use Rattle.machine.specs.declared.Found.TheVariants.{At}
 use Rattle.machine.specs.Slots.{empty_slot, slot_at, has_steps_left, next_place}
 use Rattle.machine.specs.Calls.{Call, submit, tick, collect, withdraw, served_place}
 use Rattle.machine.specs.History.{Event, Place, Entry, calling, changing, next, event_of, onward, after, since, accepts, answers_number, serves, ends, withdraws_by, job_of, held, ticks_of, steps_left, job_count, withdrawn_in, one_for_tick, ticks_in}
@@ -27,6 +25,7 @@ use Rattle.machine.proofs.Served.{Effect, still, sets}
 use Rattle.machine.proofs.Ticks.{Ticked, idled, served, ticked}
 use Rattle.machine.proofs.Ends.{collects}
 use Rattle.machine.proofs.Lists.{answers, next_invariant, jobs_grow, stays_finished}
+use Rattle.std.specs.Prelude.{Some, Err}
 
 withdrawn_append : (xs ys : List Event) (n : ℕ) → withdrawn_in (xs ++ ys) n ≡ withdrawn_in xs n || withdrawn_in ys n
 unfolding withdrawn_in
@@ -124,7 +123,7 @@ module _ (p : Place) (v : Invariant p) (n i d : ℕ) (x : Waiting p n i d) (left
   not_collected : (m : ℕ) (lent : List ℕ) → ends (event_of p (collect m lent)) n ≡ true → ⊥
   not_collected m lent e = go (eqb m n) refl e
     where
-      refused : collect_answer p.history n lent ≡ Refused StepsAreLeft
+      refused : collect_answer p.history n lent ≡ Err StepsAreLeft
       refused = rw (x.is_held, ne_eqb (steps_left p.history n) 0 (λ z. omega arith))
 
       go : (b : Bool) → eqb m n ≡ b → (b && accepts (answer_at p (collect m lent))) ≡ true → ⊥
@@ -155,7 +154,7 @@ module _ (p : Place) (v : Invariant p) (n i d : ℕ) (x : Waiting p n i d) (left
       let here : found.at ≡ k = same found.is e in
       go (eqb i k) refl (subst (λ j. Ahead (size p) (next_place (size p) p.service.served) j found.from) here found.ahead)
     where
-      same : served_place p.rules p.service ≡ At found.at → served_place p.rules p.service ≡ At k → found.at ≡ k
+      same : served_place p.rules p.service ≡ Some found.at → served_place p.rules p.service ≡ Some k → found.at ≡ k
       same f g = cc
 
       job_on : job_of (next p tick).history n ≡ job_of p.history n

@@ -8,12 +8,13 @@ use native.Mathlib.Omega.{arith}
 use borrow.Author.Tests.{eqb-true, eqb-false}
 use lib.Dec.{eqb}
 use lib.ListN.{length}
-use Rattle.machine.specs.declared.Answer.{Answer}
-use Rattle.machine.specs.declared.Answer.TheVariants.{Job, Idle, Refused}
 use Rattle.machine.specs.Rules.{Rules}
 use Rattle.machine.specs.Calls.{Call, submit, tick, collect, withdraw}
 use Rattle.machine.specs.History.{Event, accepts, starts, serves, ends, submitted_by, no_job, job_of, held, ticks_of, given_by, numbers, how_many, held_count}
 use Rattle.machine.specs.Demand.{countdown}
+use Rattle.std.specs.Prelude.{Ok, Err}
+use Rattle.machine.specs.declared.Answer.TheVariants.{Job, Idle}
+use Rattle.machine.specs.Answers.{Answered}
 
 -- an event that neither starts, serves nor ends the job with this number
 pub record Untouched (e : Event) (n : ℕ) : Type 0 where
@@ -108,31 +109,31 @@ and_false : (t : Bool) → t && false ≡ false
 and_false true = refl
 and_false false = refl
 
-touches_none : (rules : Rules) (c : Call) (a : Answer) (lent : List ℕ) → accepts a ≡ false → (n : ℕ)
+touches_none : (rules : Rules) (c : Call) (a : Answered) (lent : List ℕ) → accepts a ≡ false → (n : ℕ)
     → Untouched (record { rules = rules; call = c; answer = a; lent = lent }) n
-touches_none rules c (Job m) lent h n = absurd (true≢false h)
-touches_none rules (submit choice shape k w y pixels) Idle lent h n = record { unstarted = refl; unserved = refl; unended = refl }
-touches_none rules tick Idle lent h n = record { unstarted = refl; unserved = refl; unended = refl }
-touches_none rules (collect m mine) Idle lent h n = record { unstarted = refl; unserved = refl; unended = and_false (eqb m n) }
-touches_none rules (withdraw m) Idle lent h n = record { unstarted = refl; unserved = refl; unended = and_false (eqb m n) }
-touches_none rules (submit choice shape k w y pixels) (Refused code) lent h n = record { unstarted = refl; unserved = refl; unended = refl }
-touches_none rules tick (Refused code) lent h n = record { unstarted = refl; unserved = refl; unended = refl }
-touches_none rules (collect m mine) (Refused code) lent h n = record { unstarted = refl; unserved = refl; unended = and_false (eqb m n) }
-touches_none rules (withdraw m) (Refused code) lent h n = record { unstarted = refl; unserved = refl; unended = and_false (eqb m n) }
+touches_none rules c (Ok (Job m)) lent h n = absurd (true≢false h)
+touches_none rules (submit choice shape k w y pixels) (Ok Idle) lent h n = record { unstarted = refl; unserved = refl; unended = refl }
+touches_none rules tick (Ok Idle) lent h n = record { unstarted = refl; unserved = refl; unended = refl }
+touches_none rules (collect m mine) (Ok Idle) lent h n = record { unstarted = refl; unserved = refl; unended = and_false (eqb m n) }
+touches_none rules (withdraw m) (Ok Idle) lent h n = record { unstarted = refl; unserved = refl; unended = and_false (eqb m n) }
+touches_none rules (submit choice shape k w y pixels) (Err code) lent h n = record { unstarted = refl; unserved = refl; unended = refl }
+touches_none rules tick (Err code) lent h n = record { unstarted = refl; unserved = refl; unended = refl }
+touches_none rules (collect m mine) (Err code) lent h n = record { unstarted = refl; unserved = refl; unended = and_false (eqb m n) }
+touches_none rules (withdraw m) (Err code) lent h n = record { unstarted = refl; unserved = refl; unended = and_false (eqb m n) }
 
 pub untouched_by : (e : Event) → accepts e.answer ≡ false → (n : ℕ) → Untouched e n
 untouched_by e h n = touches_none e.rules e.call e.answer e.lent h n
 
-gives_none : (c : Call) (a : Answer) (ns : List ℕ) → accepts a ≡ false → given_by c a ns ≡ ns
-gives_none c (Job m) ns h = absurd (true≢false h)
-gives_none (submit choice shape k w y pixels) Idle ns h = refl
-gives_none tick Idle ns h = refl
-gives_none (collect m mine) Idle ns h = refl
-gives_none (withdraw m) Idle ns h = refl
-gives_none (submit choice shape k w y pixels) (Refused code) ns h = refl
-gives_none tick (Refused code) ns h = refl
-gives_none (collect m mine) (Refused code) ns h = refl
-gives_none (withdraw m) (Refused code) ns h = refl
+gives_none : (c : Call) (a : Answered) (ns : List ℕ) → accepts a ≡ false → given_by c a ns ≡ ns
+gives_none c (Ok (Job m)) ns h = absurd (true≢false h)
+gives_none (submit choice shape k w y pixels) (Ok Idle) ns h = refl
+gives_none tick (Ok Idle) ns h = refl
+gives_none (collect m mine) (Ok Idle) ns h = refl
+gives_none (withdraw m) (Ok Idle) ns h = refl
+gives_none (submit choice shape k w y pixels) (Err code) ns h = refl
+gives_none tick (Err code) ns h = refl
+gives_none (collect m mine) (Err code) ns h = refl
+gives_none (withdraw m) (Err code) ns h = refl
 
 pub same_numbers : (e : Event) (es : List Event) → accepts e.answer ≡ false → numbers (e ∷ es) ≡ numbers es
 unfolding numbers

@@ -1,10 +1,8 @@
 -- The calls of the service: each as a function of the record, the store and what is lent to it, with its refusals in checking
 -- order. Definitions only; the contracts of the running calls are equations with these.
-use Rattle.std.specs.Prelude.{Bool, true, false, not, cond, List, [], ◌∷◌, ℕ, ◌+◌, ◌-◌, ◌*◌, ◌^◌, leb, ltb, eqb, length, set, ℤ, pos}
+use Rattle.std.specs.Prelude.{Bool, true, false, not, cond, List, [], ◌∷◌, ℕ, ◌+◌, ◌-◌, ◌*◌, ◌^◌, leb, ltb, eqb, length, set, ℤ, pos, Option, Some, None, Ok, Err}
 use Rattle.limits.specs.Limits.{steps_in_range, sides_in_range, fills_picture, fits_buffer}
-use Rattle.limits.specs.Errors.{Check, ◌otherwise◌, first_refusal}
-use Rattle.limits.specs.declared.Outcome.{Outcome}
-use Rattle.limits.specs.declared.Outcome.TheVariants.{Accepted, Refused}
+use Rattle.limits.specs.Errors.{Outcome, Check, ◌otherwise◌, first_refusal}
 use Rattle.limits.specs.declared.ErrorCode.TheVariants.{RecordOutOfOrder, VarianceOutOfRange, NotADirection, StepsOutOfRange, SideOutOfRange, NoSuchJob, StepsAreLeft, WrongLength, TooManyPixels, NoKernel, NoFreeBuffers, NumbersUsedUp}
 use Rattle.kernel.specs.declared.Kernel.{Kernel}
 use Rattle.kernel.specs.declared.Choice.{Choice}
@@ -17,20 +15,16 @@ use Rattle.covariance.specs.Shapes.{variances_fine, direction_fine, covariance_x
 use Rattle.averaging.specs.Steps.{step_of}
 use Rattle.machine.specs.declared.Slot.{Slot}
 use Rattle.machine.specs.declared.Service.{Service}
-use Rattle.machine.specs.declared.Answer as A
-use Rattle.machine.specs.declared.Answer.{Answer}
-use Rattle.machine.specs.declared.FreeCount as F
-use Rattle.machine.specs.declared.FreeCount.{FreeCount}
-use Rattle.machine.specs.declared.Found.{Found}
-use Rattle.machine.specs.declared.Found.TheVariants.{At, Nothing}
 use Rattle.machine.specs.Rules.{Rules}
 use Rattle.machine.specs.Slots.{empty_slot, slot_at, is_empty, has_steps_left, has_number, next_place, first_from, count_of}
 use Rattle.machine.specs.Store.{buffer_count, put, buffer_after, steps_done, current_image}
 use Rattle.machine.specs.Order.{in_order, usable}
+use Rattle.machine.specs.declared.Answer.TheVariants.{Job, Idle}
+use Rattle.machine.specs.Answers.{Answered, FreeCount}
 
 -- what a call leaves behind: its answer, the record, the store, and the picture that was lent to it
 pub record Result : Type 0 where
-  pub answer : Answer
+  pub answer : Answered
   pub service : Service
   pub store : List ℕ
   pub lent : List ℕ
@@ -71,7 +65,7 @@ submit_checks rules r store shape k w h pixels =
     first_refusal ((usable rules r store otherwise RecordOutOfOrder) ∷ submitted_checks shape k w h pixels (room_checks rules r))
 
 -- "the first empty seat counted on cyclically from the one after the seat last filled"
-abbrev pub empty_place : Rules → Service → Found
+abbrev pub empty_place : Rules → Service → Option ℕ
 empty_place rules r = first_from is_empty r.slots rules.slot_count (next_place rules.slot_count r.filled) rules.slot_count
 
 -- the choice of a job, by the rules of its submit: the one that it names, and by rules without a choice the smallest, whatever stands
@@ -99,10 +93,10 @@ new_slot rules number choice shape k w h =
 
 -- "Submit fills [that seat], copies the picture to the start of buffer 2i, and gives the next number". After its checks there is an
 -- empty seat: the second case cannot occur (`submit_finds` of proofs/Finds).
-abbrev pub submit_at : Rules → Service → List ℕ → Choice → Shape → ℕ → ℕ → ℕ → List ℕ → Found → Result
-submit_at rules r store choice shape k w h pixels (At i) =
+abbrev pub submit_at : Rules → Service → List ℕ → Choice → Shape → ℕ → ℕ → ℕ → List ℕ → Option ℕ → Result
+submit_at rules r store choice shape k w h pixels (Some i) =
     record {
-      answer = A.Answer.Job (r.last + 1);
+      answer = Ok (Job (r.last + 1));
       service =
           record {
             slots = set r.slots i (new_slot rules (r.last + 1) choice shape k w h);
@@ -113,14 +107,14 @@ submit_at rules r store choice shape k w h pixels (At i) =
       store = put (buffer_after rules i 0) pixels store;
       lent = pixels;
     }
-submit_at rules r store choice shape k w h pixels Nothing =
-    record { answer = A.Answer.Refused NoFreeBuffers; service = r; store = store; lent = pixels }
+submit_at rules r store choice shape k w h pixels None =
+    record { answer = Err NoFreeBuffers; service = r; store = store; lent = pixels }
 
 -- a refused call: "a refusal answers its number alone; record, store and every lent buffer keep their contents"
 abbrev pub unless_refused : Outcome → Service → List ℕ → List ℕ → Result → Result
-unless_refused Accepted r store lent result = result
-unless_refused (Refused code) r store lent result =
-    record { answer = A.Answer.Refused code; service = r; store = store; lent = lent }
+unless_refused (Ok done) r store lent result = result
+unless_refused (Err code) r store lent result =
+    record { answer = Err code; service = r; store = store; lent = lent }
 
 unfoldable pub submit_of : Rules → Service → List ℕ → Choice → Shape → ℕ → ℕ → ℕ → List ℕ → Result
 submit_of rules r store choice shape k w h pixels =
@@ -161,19 +155,19 @@ abbrev pub next_image : Rules → List ℕ → ℕ → Slot → List ℕ
 next_image rules store i s = step_of (kernel_of_slot rules s) s.width s.height (current_image rules store i s)
 
 -- "counted cyclically from the one after the seat last served, the first seat with steps left"
-abbrev pub served_place : Rules → Service → Found
+abbrev pub served_place : Rules → Service → Option ℕ
 served_place rules r = first_from has_steps_left r.slots rules.slot_count (next_place rules.slot_count r.served) rules.slot_count
 
 -- "it answers the job number. It answers idle where no seat has steps left, and only there, and then changes nothing"
-abbrev pub tick_at : Rules → Service → List ℕ → Found → Result
-tick_at rules r store (At i) =
+abbrev pub tick_at : Rules → Service → List ℕ → Option ℕ → Result
+tick_at rules r store (Some i) =
     record {
-      answer = A.Answer.Job (slot_at r i).number;
+      answer = Ok (Job (slot_at r i).number);
       service = turned_at r i ((slot_at r i).left - 1);
       store = put (buffer_after rules i (steps_done (slot_at r i) + 1)) (next_image rules store i (slot_at r i)) store;
       lent = [];
     }
-tick_at rules r store Nothing = record { answer = A.Answer.Idle; service = r; store = store; lent = [] }
+tick_at rules r store None = record { answer = Ok Idle; service = r; store = store; lent = [] }
 
 abbrev pub tick_checks : Rules → Service → List ℕ → Outcome
 tick_checks rules r store = first_refusal ((usable rules r store otherwise RecordOutOfOrder) ∷ [])
@@ -183,17 +177,17 @@ tick_of rules r store = unless_refused (tick_checks rules r store) r store [] (t
 
 -- ---- collect and withdraw
 -- "No seat has this job number (0 included)" is refusal 7
-abbrev pub place_of : Rules → Service → ℕ → Found
-place_of rules r number = cond (eqb number 0) Nothing (first_from (has_number number) r.slots rules.slot_count 0 rules.slot_count)
+abbrev pub place_of : Rules → Service → ℕ → Option ℕ
+place_of rules r number = cond (eqb number 0) None (first_from (has_number number) r.slots rules.slot_count 0 rules.slot_count)
 
-abbrev pub is_found : Found → Bool
-is_found (At i) = true
-is_found Nothing = false
+abbrev pub is_found : Option ℕ → Bool
+is_found (Some i) = true
+is_found None = false
 
 -- the slot that was found; where none was, a call is refused with 7 before it looks at the slot
-abbrev pub slot_found : Service → Found → Slot
-slot_found r (At i) = slot_at r i
-slot_found r Nothing = empty_slot
+abbrev pub slot_found : Service → Option ℕ → Slot
+slot_found r (Some i) = slot_at r i
+slot_found r None = empty_slot
 
 abbrev pub emptied : Service → ℕ → Service
 emptied r i = record { slots = set r.slots i empty_slot; last = r.last; filled = r.filled; served = r.served }
@@ -212,11 +206,11 @@ collect_checks rules r store number lent =
 
 -- "Collect writes it out and empties the seat .. neither changes the store". After its checks the job was found: the second case
 -- cannot occur (`collect_finds`).
-abbrev pub collect_at : Rules → Service → List ℕ → ℕ → List ℕ → Found → Result
-collect_at rules r store number lent (At i) =
-    record { answer = A.Answer.Job number; service = emptied r i; store = store; lent = current_image rules store i (slot_at r i) }
-collect_at rules r store number lent Nothing =
-    record { answer = A.Answer.Refused NoSuchJob; service = r; store = store; lent = lent }
+abbrev pub collect_at : Rules → Service → List ℕ → ℕ → List ℕ → Option ℕ → Result
+collect_at rules r store number lent (Some i) =
+    record { answer = Ok (Job number); service = emptied r i; store = store; lent = current_image rules store i (slot_at r i) }
+collect_at rules r store number lent None =
+    record { answer = Err NoSuchJob; service = r; store = store; lent = lent }
 
 unfoldable pub collect_of : Rules → Service → List ℕ → ℕ → List ℕ → Result
 collect_of rules r store number lent =
@@ -229,11 +223,11 @@ withdraw_checks rules r number =
 
 -- "withdraw empties the seat, finished or not". After its checks the job was found: the second case cannot occur
 -- (`withdraw_finds`).
-abbrev pub withdraw_at : Service → List ℕ → ℕ → Found → Result
-withdraw_at r store number (At i) =
-    record { answer = A.Answer.Job number; service = emptied r i; store = store; lent = [] }
-withdraw_at r store number Nothing =
-    record { answer = A.Answer.Refused NoSuchJob; service = r; store = store; lent = [] }
+abbrev pub withdraw_at : Service → List ℕ → ℕ → Option ℕ → Result
+withdraw_at r store number (Some i) =
+    record { answer = Ok (Job number); service = emptied r i; store = store; lent = [] }
+withdraw_at r store number None =
+    record { answer = Err NoSuchJob; service = r; store = store; lent = [] }
 
 unfoldable pub withdraw_of : Rules → Service → List ℕ → ℕ → Result
 withdraw_of rules r store number =
@@ -244,8 +238,8 @@ abbrev pub count_checks : Rules → Service → Outcome
 count_checks rules r = first_refusal ((in_order rules r otherwise RecordOutOfOrder) ∷ [])
 
 abbrev pub free_count_with : Outcome → ℕ → FreeCount
-free_count_with Accepted n = F.FreeCount.Buffers n
-free_count_with (Refused code) n = F.FreeCount.Refused code
+free_count_with (Ok done) n = Ok n
+free_count_with (Err code) n = Err code
 
 unfoldable pub free_count_of : Rules → Service → FreeCount
 free_count_of rules r = free_count_with (count_checks rules r) (free_buffers rules r)

@@ -1,8 +1,7 @@
 -- S-3, "Units in the field change over while running": an old record becomes a new one. Definitions only.
-use Rattle.std.specs.Prelude.{Bool, not, cond, ◌&&◌, List, [], ◌∷◌, map, ℕ, replicate}
-use Rattle.limits.specs.Errors.{◌otherwise◌, first_refusal}
-use Rattle.limits.specs.declared.Outcome.{Outcome}
-use Rattle.limits.specs.declared.Outcome.TheVariants.{Accepted, Refused}
+use Rattle.std.specs.Prelude.{not, cond, ◌&&◌, [], ◌∷◌, map, ℕ, Result, Ok, Err}
+use Rattle.limits.specs.Errors.{Outcome, ◌otherwise◌, first_refusal}
+use Rattle.limits.specs.declared.ErrorCode.{ErrorCode}
 use Rattle.limits.specs.declared.ErrorCode.TheVariants.{RecordOutOfOrder}
 use Rattle.kernel.specs.declared.Choice.TheVariants.{Smallest}
 use Rattle.kernel.specs.Choice.{free_by}
@@ -10,9 +9,8 @@ use Rattle.machine.specs.declared.Slot.{Slot}
 use Rattle.machine.specs.declared.Service.{Service}
 use Rattle.machine.specs.declared.BaseSlot.{BaseSlot}
 use Rattle.machine.specs.declared.BaseService.{BaseService}
-use Rattle.machine.specs.declared.ChangedOver.{ChangedOver}
 use Rattle.machine.specs.Rules.{Rules, base_rules}
-use Rattle.machine.specs.Slots.{slot_count, empty_slot, is_empty}
+use Rattle.machine.specs.Slots.{is_empty}
 use Rattle.machine.specs.Order.{in_order}
 
 -- ---- the old record, which has no f: in one record for every time f is 0 there, and no definition by the base rules reads it
@@ -61,14 +59,10 @@ changed_over r = record { slots = map changed_slot r.slots; last = r.last; fille
 abbrev pub change_checks : Rules → Service → Outcome
 change_checks rules r = first_refusal (((not rules.holds_choice && in_order rules r) otherwise RecordOutOfOrder) ∷ [])
 
--- ---- the call, which takes the old record and gives the new one. Beside a refusal stands a record that is not in order, so that no
--- call takes it
-abbrev pub no_service : Service
-no_service = record { slots = replicate slot_count empty_slot; last = 0; filled = slot_count; served = slot_count }
+-- ---- the call, which takes the old record and gives the new one; beside a refusal there is none
+abbrev pub change_with : Outcome → Service → Result Service ErrorCode
+change_with (Ok done) r = Ok r
+change_with (Err code) r = Err code
 
-abbrev pub change_with : Outcome → Service → ChangedOver
-change_with Accepted r = record { outcome = Accepted; service = r }
-change_with (Refused code) r = record { outcome = Refused code; service = no_service }
-
-abbrev pub change_of : BaseService → ChangedOver
+abbrev pub change_of : BaseService → Result Service ErrorCode
 change_of old = change_with (change_checks base_rules (service_from_base old)) (changed_over (service_from_base old))

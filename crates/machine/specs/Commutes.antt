@@ -1,7 +1,6 @@
 -- S-3: "Its jobs finish with the pixels they would have had before, and turn order and job numbers carry on", of single calls at every
 -- old record in order and every store, whether a list of calls leads there or not. Definitions only; `proofs/Commutes` shows it.
-use Rattle.std.specs.Prelude.{◌≡◌, List, ℕ, length}
-use Rattle.limits.specs.declared.Outcome.TheVariants.{Accepted}
+use Rattle.std.specs.Prelude.{◌≡◌, List, ℕ, length, Ok}
 use Rattle.kernel.specs.declared.Choice.TheVariants.{Smallest}
 use Rattle.machine.specs.declared.Service.{Service}
 use Rattle.machine.specs.Rules.{Rules, with_choice}
@@ -22,7 +21,7 @@ naming_smallest (withdraw n) = withdraw n
 -- a call by the old rules and the change-over after it, and the change-over and the call by the new rules after it
 pub record Commutes (rules : Rules) (r : Service) (store : List ℕ) (c : Call) : Type 0 where
   -- whatever the call did, the change-over is accepted after it
-  pub accepted_after : change_checks rules (call_of rules r store c).service ≡ Accepted
+  pub accepted_after : change_checks rules (call_of rules r store c).service ≡ Ok tt
   -- same answer, record, store and picture
   pub same : call_of (with_choice rules) (changed_over r) store (naming_smallest c) ≡ result_changed (call_of rules r store c)
 
@@ -33,4 +32,4 @@ pub record ChangeCommutes (rules : Rules) (r : Service) : Type 0 where
 
 -- of as many slots as the rules have, which the type of a record in code says
 abbrev pub EveryChangeCommutes : Rules → Type 0
-EveryChangeCommutes rules = (r : Service) → length r.slots ≡ rules.slot_count → change_checks rules r ≡ Accepted → ChangeCommutes rules r
+EveryChangeCommutes rules = (r : Service) → length r.slots ≡ rules.slot_count → change_checks rules r ≡ Ok tt → ChangeCommutes rules r

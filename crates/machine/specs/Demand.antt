@@ -1,27 +1,24 @@
 -- Demand 3: one claim about a whole list of calls, with a field for each sentence of REFERENCE under "Demand 3 is one
 -- claim". Definitions only; `proofs/Theorem` shows it of every list.
-use Rattle.std.specs.Prelude.{◌≡◌, Bool, true, false, not, ◌&&◌, ◌⊎◌, ◌↔◌, List, [], ◌∷◌, ℕ, zero, suc, ◌+◌, ◌-◌, ◌*◌, ◌≤◌, ◌<◌, ltb, length, replicate}
+use Rattle.std.specs.Prelude.{◌≡◌, Bool, true, false, not, ◌&&◌, ◌⊎◌, ◌↔◌, List, [], ◌∷◌, ℕ, zero, suc, ◌+◌, ◌-◌, ◌*◌, ◌≤◌, ◌<◌, ltb, length, replicate, Ok, Err}
 use Rattle.limits.specs.Limits.{fills_picture}
-use Rattle.limits.specs.Errors.{◌otherwise◌, first_refusal}
-use Rattle.limits.specs.declared.Outcome as O
-use Rattle.limits.specs.declared.Outcome.{Outcome}
+use Rattle.limits.specs.Errors.{Outcome, ◌otherwise◌, first_refusal}
 use Rattle.limits.specs.declared.ErrorCode.TheVariants.{RecordOutOfOrder, NoSuchJob, StepsAreLeft, WrongLength, NoFreeBuffers, NumbersUsedUp}
 use Rattle.kernel.specs.declared.Choice.{Choice}
 use Rattle.covariance.specs.declared.Shape.{Shape}
 use Rattle.averaging.specs.Distances.{Entrywise, Distance}
-use Rattle.machine.specs.declared.Answer.{Answer}
-use Rattle.machine.specs.declared.Answer.TheVariants.{Job, Idle, Refused}
-use Rattle.machine.specs.declared.FreeCount.TheVariants.{Buffers}
 use Rattle.machine.specs.Rules.{Rules, base_rules, choice_rules}
 use Rattle.machine.specs.Store.{buffer_count, store_length}
 use Rattle.machine.specs.Calls.{Call, submit, tick, collect, withdraw, submitted_checks, last_number, free_count_of}
 use Rattle.machine.specs.Change.{change_checks}
 use Rattle.machine.specs.History.{Event, Place, Entry, calling, opened, next, event_of, after, since, accepts, Submitted, kernel_of_job, alone_after, exact_after, job_of, held, ticks_of, steps_left, finished, numbers, job_count, held_count, withdrawn_in, ticks_in}
+use Rattle.machine.specs.declared.Answer.TheVariants.{Job, Idle}
+use Rattle.machine.specs.Answers.{Answered}
 
 -- the answer of a call that gives this number where it is not refused
-abbrev pub number_unless : Outcome → ℕ → Answer
-number_unless O.Outcome.Accepted n = Job n
-number_unless (O.Outcome.Refused code) n = Refused code
+abbrev pub number_unless : Outcome → ℕ → Answered
+number_unless (Ok done) n = Ok (Job n)
+number_unless (Err code) n = Err code
 
 -- "A submit is accepted where no refusal from 3 to 11 in checking order applies to it, fewer jobs are held than there are
 -- seats, and fewer than 2^64 − 1 jobs came before it"
@@ -32,14 +29,14 @@ submit_outcome rules es shape k w h pixels =
     ((ltb (held_count es) rules.slot_count otherwise NoFreeBuffers) ∷ (ltb (job_count es) last_number otherwise NumbersUsedUp) ∷ []))
 
 -- it answers the next number
-abbrev pub submit_answer : Rules → List Event → Shape → ℕ → ℕ → ℕ → List ℕ → Answer
+abbrev pub submit_answer : Rules → List Event → Shape → ℕ → ℕ → ℕ → List ℕ → Answered
 submit_answer rules es shape k w h pixels = number_unless (submit_outcome rules es shape k w h pixels) (job_count es + 1)
 
 -- "While it is held, a withdraw of it is accepted"
 abbrev pub withdraw_outcome : List Event → ℕ → Outcome
 withdraw_outcome es n = first_refusal ((held es n otherwise NoSuchJob) ∷ [])
 
-abbrev pub withdraw_answer : List Event → ℕ → Answer
+abbrev pub withdraw_answer : List Event → ℕ → Answered
 withdraw_answer es n = number_unless (withdraw_outcome es n) n
 
 -- "While it is held and finished, a collect of it with a lent picture of w × h pixels is accepted; before it is finished none
@@ -52,11 +49,11 @@ collect_outcome es n lent =
     ∷ (fills_picture (length lent) (job_of es n).width (job_of es n).height otherwise WrongLength)
     ∷ [])
 
-abbrev pub collect_answer : List Event → ℕ → List ℕ → Answer
+abbrev pub collect_answer : List Event → ℕ → List ℕ → Answered
 collect_answer es n lent = number_unless (collect_outcome es n lent) n
 
 -- what a call answers at a place, the picture lent to it, and the same picture as the call leaves it
-abbrev pub answer_at : Place → Call → Answer
+abbrev pub answer_at : Place → Call → Answered
 answer_at p c = (event_of p c).answer
 
 abbrev pub lent_to : Call → List ℕ
@@ -95,7 +92,7 @@ all_accepted (e ∷ es) = accepts e.answer && all_accepted es
 -- or idle, the collect of its job, which is the first, is accepted, and "hands over the same"
 pub record LoneService (end : Place) (mine same : List ℕ) : Type 0 where
   pub calls_accepted : all_accepted end.history ≡ true
-  pub collect_accepted : answer_at end (collect 1 mine) ≡ Job 1
+  pub collect_accepted : answer_at end (collect 1 mine) ≡ Ok (Job 1)
   pub hands_over_the_same : handed_over end 1 mine ≡ same
 
 -- what is claimed of the picture that a collect hands over for a job
@@ -118,12 +115,12 @@ pub record AtPlace (p : Place) : Type 0 where
   pub withdraw_answer_is : (n : ℕ) → answer_at p (withdraw n) ≡ withdraw_answer p.history n
   pub collect_answer_is : (n : ℕ) (lent : List ℕ) → answer_at p (collect n lent) ≡ collect_answer p.history n lent
   -- what an accepted collect hands over is what its job gets alone
-  pub handed_over_is : (n : ℕ) (lent : List ℕ) → answer_at p (collect n lent) ≡ Job n
+  pub handed_over_is : (n : ℕ) (lent : List ℕ) → answer_at p (collect n lent) ≡ Ok (Job n)
       → AsAlone (job_of p.history n) (handed_over p n lent)
   -- a tick answers idle exactly where each held job is finished; any other tick answers a held job that has steps left
-  pub tick_idle : (answer_at p tick ≡ Idle) ↔ ((n : ℕ) → held p.history n ≡ true → finished p.history n ≡ true)
-  pub tick_serves : (answer_at p tick ≡ Idle)
-      ⊎ ((n : ℕ) × (answer_at p tick ≡ Job n) × (held p.history n ≡ true) × (0 < steps_left p.history n))
+  pub tick_idle : (answer_at p tick ≡ Ok Idle) ↔ ((n : ℕ) → held p.history n ≡ true → finished p.history n ≡ true)
+  pub tick_serves : (answer_at p tick ≡ Ok Idle)
+      ⊎ ((n : ℕ) × (answer_at p tick ≡ Ok (Job n)) × (held p.history n ≡ true) × (0 < steps_left p.history n))
   -- "where a held job has r steps left and 8 × r more ticks follow in the list, it is finished or was withdrawn by the last
   -- of them, whatever calls stand between": 8 are the slots. The change-over may stand between them too
   pub wait : (n : ℕ) (entries : List Entry) → held p.history n ≡ true
@@ -136,7 +133,7 @@ pub record AtPlace (p : Place) : Type 0 where
   pub change_answer : change_checks p.rules p.service ≡ change_outcome p.rules
   -- "Free buffers at a place are what the free count, called there as well, answers": 16, those of all slots, less 2, those of one,
   -- for each job held
-  pub free_buffers_are : free_count_of p.rules p.service ≡ Buffers (buffer_count p.rules - p.rules.buffers_per_slot * held_count p.history)
+  pub free_buffers_are : free_count_of p.rules p.service ≡ Ok (buffer_count p.rules - p.rules.buffers_per_slot * held_count p.history)
   -- "Numbers are not given twice": those given so far are 1, 2, 3 and so on
   pub numbers_given : numbers p.history ≡ countdown (job_count p.history)
   pub at_most_all_slots : held_count p.history ≤ p.rules.slot_count

@@ -1,27 +1,26 @@
 -- Lists of calls, and the words of demand 3: "taken from the calls and their answers, never from the record". Definitions
 -- only.
-use Rattle.std.specs.Prelude.{Bool, true, false, cond, ◌&&◌, ◌||◌, List, [], ◌∷◌, ◌++◌, ℕ, ◌+◌, ◌-◌, eqb, length, pos}
+use Rattle.std.specs.Prelude.{Bool, true, false, cond, ◌&&◌, ◌||◌, List, [], ◌∷◌, ◌++◌, ℕ, ◌+◌, ◌-◌, eqb, length, pos, Ok, Err}
 use Rattle.covariance.specs.declared.Shape.{Shape}
 use Rattle.covariance.specs.Shapes.{kernel_of_shape_by}
-use Rattle.limits.specs.declared.Outcome.{Outcome}
-use Rattle.limits.specs.declared.Outcome.TheVariants as O
 use Rattle.kernel.specs.declared.Kernel.{Kernel}
 use Rattle.kernel.specs.declared.Choice.{Choice}
 use Rattle.kernel.specs.declared.Choice.TheVariants.{Smallest}
 use Rattle.averaging.specs.Steps.{steps_of, exact_of}
 use Rattle.machine.specs.declared.Service.{Service}
-use Rattle.machine.specs.declared.Answer.{Answer}
-use Rattle.machine.specs.declared.Answer.TheVariants.{Job, Idle, Refused}
 use Rattle.machine.specs.Rules.{Rules, base_rules, with_choice}
 use Rattle.machine.specs.Slots.{opening}
 use Rattle.machine.specs.Calls.{Call, submit, tick, collect, withdraw, call_of, choice_by}
 use Rattle.machine.specs.Change.{changed_over, change_checks}
+use Rattle.limits.specs.Errors.{Outcome}
+use Rattle.machine.specs.declared.Answer.TheVariants.{Job, Idle}
+use Rattle.machine.specs.Answers.{Answered}
 
 -- a call of the list with the rules that it followed, its answer, and the picture that was lent to it as it left it
 pub record Event : Type 0 where
   pub rules : Rules
   pub call : Call
-  pub answer : Answer
+  pub answer : Answered
   pub lent : List ℕ
 
 -- a place in the list: the rules that a call follows there, the record and the store, and all that was called and answered before it,
@@ -64,9 +63,9 @@ pub data Entry : Type 0 where
 -- the change-over passes the new record and the store on, and from there on calls follow the new rules; refused, it changes nothing.
 -- It is no call of a job, so the words below do not see it
 abbrev pub changed_place : Outcome → Place → Place
-changed_place O.Accepted p =
+changed_place (Ok done) p =
     record { rules = with_choice p.rules; service = changed_over p.service; store = p.store; history = p.history }
-changed_place (O.Refused code) p = p
+changed_place (Err code) p = p
 
 abbrev pub onward : Place → Entry → Place
 onward p (calling c) = next p c
@@ -87,39 +86,39 @@ since p [] = []
 since p (e ∷ es) = since (onward p e) es ++ events_of p e
 
 -- ---- what an event is to the job with a number
-abbrev pub accepts : Answer → Bool
-accepts (Job n) = true
-accepts Idle = false
-accepts (Refused code) = false
+abbrev pub accepts : Answered → Bool
+accepts (Ok (Job n)) = true
+accepts (Ok Idle) = false
+accepts (Err code) = false
 
-abbrev pub answers_number : Answer → ℕ → Bool
-answers_number (Job m) n = eqb m n
-answers_number Idle n = false
-answers_number (Refused code) n = false
+abbrev pub answers_number : Answered → ℕ → Bool
+answers_number (Ok (Job m)) n = eqb m n
+answers_number (Ok Idle) n = false
+answers_number (Err code) n = false
 
 -- "A job is an accepted submit, named by the number it answered"
-abbrev pub starts_by : Call → Answer → ℕ → Bool
+abbrev pub starts_by : Call → Answered → ℕ → Bool
 starts_by (submit choice shape k w h pixels) a n = answers_number a n
 starts_by tick a n = false
 starts_by (collect m lent) a n = false
 starts_by (withdraw m) a n = false
 
 -- a tick that answered its number
-abbrev pub serves_by : Call → Answer → ℕ → Bool
+abbrev pub serves_by : Call → Answered → ℕ → Bool
 serves_by (submit choice shape k w h pixels) a n = false
 serves_by tick a n = answers_number a n
 serves_by (collect m lent) a n = false
 serves_by (withdraw m) a n = false
 
 -- an accepted withdraw of its number
-abbrev pub withdraws_by : Call → Answer → ℕ → Bool
+abbrev pub withdraws_by : Call → Answered → ℕ → Bool
 withdraws_by (submit choice shape k w h pixels) a n = false
 withdraws_by tick a n = false
 withdraws_by (collect m lent) a n = false
 withdraws_by (withdraw m) a n = eqb m n && accepts a
 
 -- an accepted collect or withdraw of its number
-abbrev pub ends_by : Call → Answer → ℕ → Bool
+abbrev pub ends_by : Call → Answered → ℕ → Bool
 ends_by (submit choice shape k w h pixels) a n = false
 ends_by tick a n = false
 ends_by (collect m lent) a n = eqb m n && accepts a
@@ -193,10 +192,10 @@ abbrev pub finished : List Event → ℕ → Bool
 finished es n = eqb (steps_left es n) 0
 
 -- the numbers that accepted submits answered, the latest first
-abbrev pub given_by : Call → Answer → List ℕ → List ℕ
-given_by (submit choice shape k w h pixels) (Job n) ns = n ∷ ns
-given_by (submit choice shape k w h pixels) Idle ns = ns
-given_by (submit choice shape k w h pixels) (Refused code) ns = ns
+abbrev pub given_by : Call → Answered → List ℕ → List ℕ
+given_by (submit choice shape k w h pixels) (Ok (Job n)) ns = n ∷ ns
+given_by (submit choice shape k w h pixels) (Ok Idle) ns = ns
+given_by (submit choice shape k w h pixels) (Err code) ns = ns
 given_by tick a ns = ns
 given_by (collect m lent) a ns = ns
 given_by (withdraw m) a ns = ns

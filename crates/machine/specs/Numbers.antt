@@ -1,15 +1,10 @@
 -- The calls and demand 3 in REFERENCE's numbers: the number and the values of each answer (specs/Answers), at any record and
 -- store, and at a place of a list of calls. Definitions only; `proofs/Numbers` shows both.
-use Rattle.std.specs.Prelude.{◌≡◌, true, ◌⊎◌, ◌↔◌, List, [], ◌∷◌, ℕ, ◌+◌, ◌*◌, ◌<◌, ◌≤◌, length}
-use Rattle.limits.specs.Errors.{outcome_number}
-use Rattle.limits.specs.declared.Outcome.{Outcome}
-use Rattle.limits.specs.declared.Outcome.TheVariants as O
+use Rattle.std.specs.Prelude.{◌≡◌, true, ◌⊎◌, ◌↔◌, List, [], ◌∷◌, ℕ, ◌+◌, ◌*◌, ◌<◌, ◌≤◌, length, Option, Some, None, Ok, Err}
+use Rattle.limits.specs.Errors.{Outcome, outcome_number}
 use Rattle.kernel.specs.declared.Choice.{Choice}
 use Rattle.covariance.specs.declared.Shape.{Shape}
 use Rattle.machine.specs.declared.Service.{Service}
-use Rattle.machine.specs.declared.Answer.{Answer}
-use Rattle.machine.specs.declared.Found.{Found}
-use Rattle.machine.specs.declared.Found.TheVariants.{At, Nothing}
 use Rattle.machine.specs.Answers.{answer_number, answer_values, count_number, count_values}
 use Rattle.machine.specs.Rules.{Rules}
 use Rattle.machine.specs.Slots.{slot_at}
@@ -17,23 +12,24 @@ use Rattle.machine.specs.Store.{store_length}
 use Rattle.machine.specs.Calls.{submit, tick, collect, withdraw, free_buffers, submit_checks, submit_of, tick_checks, served_place, tick_of, collect_checks, collect_of, withdraw_checks, withdraw_of, count_checks, free_count_of}
 use Rattle.machine.specs.History.{Place, Entry, opened, after, since, held, steps_left, finished, job_count, held_count, withdrawn_in, ticks_in}
 use Rattle.machine.specs.Demand.{Opening, answer_at, submit_outcome, withdraw_outcome, collect_outcome}
+use Rattle.machine.specs.Answers.{Answered}
 
 -- the values of a call that gives one number where it is not refused: "a refusal answers its number alone"
 abbrev pub values_unless : Outcome → ℕ → List ℕ
-values_unless O.Accepted n = n ∷ []
-values_unless (O.Refused code) n = []
+values_unless (Ok done) n = n ∷ []
+values_unless (Err code) n = []
 
 -- an answer with the number of an outcome and, where nothing is refused, this one value
-pub record AnswerIs (a : Answer) (o : Outcome) (n : ℕ) : Type 0 where
+pub record AnswerIs (a : Answered) (o : Outcome) (n : ℕ) : Type 0 where
   pub number : answer_number a ≡ outcome_number o
   pub values : answer_values a ≡ values_unless o n
 
 -- ---- at any record and any store, by any rules
 -- the values of a tick: the number of the job that it serves
-abbrev pub tick_values : Service → Outcome → Found → List ℕ
-tick_values r O.Accepted (At i) = (slot_at r i).number ∷ []
-tick_values r O.Accepted Nothing = []
-tick_values r (O.Refused code) f = []
+abbrev pub tick_values : Service → Outcome → Option ℕ → List ℕ
+tick_values r (Ok done) (Some i) = (slot_at r i).number ∷ []
+tick_values r (Ok done) None = []
+tick_values r (Err code) f = []
 
 pub record CallsInNumbers (rules : Rules) (r : Service) (store : List ℕ) : Type 0 where
   pub submits : (choice : Choice) (shape : Shape) (k w h : ℕ) (pixels : List ℕ)

@@ -1,9 +1,7 @@
 -- The slots (REFERENCE: seats) of the service record, and searches over them. Definitions only.
-use Rattle.std.specs.Prelude.{Bool, true, cond, ◌&&◌, List, ℕ, zero, suc, ◌+◌, ◌-◌, ltb, eqb, get_or, replicate, pos}
+use Rattle.std.specs.Prelude.{Bool, true, cond, ◌&&◌, List, ℕ, zero, suc, ◌+◌, ◌-◌, ltb, eqb, get_or, replicate, pos, Option, Some, None}
 use Rattle.machine.specs.declared.Slot.{Slot}
 use Rattle.machine.specs.declared.Service.{Service}
-use Rattle.machine.specs.declared.Found.{Found}
-use Rattle.machine.specs.declared.Found.TheVariants.{At, Nothing}
 use Rattle.machine.specs.Rules.{Rules, current_rules}
 
 -- how many there are by the rules that the calls of this library run by: "Eight seats, 0 to 7"
@@ -42,10 +40,10 @@ abbrev pub next_place : ℕ → ℕ → ℕ
 next_place size i = cond (ltb (i + 1) size) (i + 1) 0
 
 -- the first slot that passes the test, counted on cyclically from a place, looking at n of them
-unfoldable pub first_from : (Slot → Bool) → List Slot → ℕ → ℕ → ℕ → Found
-first_from test slots size place zero = Nothing
+unfoldable pub first_from : (Slot → Bool) → List Slot → ℕ → ℕ → ℕ → Option ℕ
+first_from test slots size place zero = None
 first_from test slots size place (suc n) =
-    cond (test (get_or slots place empty_slot)) (At place) (first_from test slots size (next_place size place) n)
+    cond (test (get_or slots place empty_slot)) (Some place) (first_from test slots size (next_place size place) n)
 
 -- how many of the first n slots pass the test
 unfoldable pub count_of : (Slot → Bool) → List Slot → ℕ → ℕ

@@ -6,7 +6,6 @@ use Prim.Native.Nat.{ℕ}
 use lib.Dec.{eqb}
 use lib.ListN.{length}
 use Rattle.limits.specs.Errors.{first_refusal}
-use Rattle.limits.specs.declared.Outcome.TheVariants.{Accepted}
 use Rattle.limits.proofs.Checks.{all_hold}
 use Rattle.kernel.specs.declared.Choice.{Choice}
 use Rattle.covariance.specs.declared.Shape.{Shape}
@@ -16,16 +15,17 @@ use Rattle.smoothing.specs.Runs.{run_checks, is_even, Result, run_of}
 use Rattle.smoothing.specs.Shown.{shown_of}
 use Rattle.smoothing.proofs.Theorems.{answers, same_checks, shows_whole, shows_last}
 use Rattle.picture_calls.specs.Pictures.{shown_picture, shown_code, shown_picture_after}
+use Rattle.std.specs.Prelude.{Ok}
 
 -- of what a run leaves, the picture of a number: the first is picture 0
 abbrev pub picture_of : ℕ → Result → List ℕ
 picture_of n left = cond (eqb n 0) left.first left.second
 
-module _ (choice : Choice) (shape : Shape) (k w h : ℕ) (first second : List ℕ) (accepted : (run_of choice shape k w h first second).outcome ≡ Accepted) where
+module _ (choice : Choice) (shape : Shape) (k w h : ℕ) (first second : List ℕ) (accepted : (run_of choice shape k w h first second).outcome ≡ Ok tt) where
   abbrev left : Result
   left = run_of choice shape k w h first second
 
-  checked : first_refusal (run_checks shape k w h (length first) (length second)) ≡ Accepted
+  checked : first_refusal (run_checks shape k w h (length first) (length second)) ≡ Ok tt
   checked = sym (answers choice shape k w h first second) ∙ accepted
 
   -- after an accepted run the call is accepted too, whatever the lent number held

@@ -3,7 +3,6 @@
 use Rattle.std.specs.Prelude.{cond, List, [], ◌∷◌, ℕ, eqb, ℤ, Float, length}
 use Rattle.limits.specs.Limits.{steps_in_range}
 use Rattle.limits.specs.Errors.{◌otherwise◌, first_refusal, outcome_number, value_or, held_after}
-use Rattle.limits.specs.declared.Outcome.{Outcome}
 use Rattle.limits.specs.declared.ErrorCode.TheVariants.{VarianceOutOfRange, NotADirection, StepsOutOfRange, WrongLength, NoKernel}
 use Rattle.kernel.specs.declared.Choice.{Choice}
 use Rattle.kernel.specs.declared.Kernel.{Kernel}
@@ -15,6 +14,7 @@ use Rattle.differences.specs.declared.Difference.{Difference}
 use Rattle.differences.specs.Stencils.{differences_of}
 use Rattle.differences.specs.Directional.{directional_of}
 use Rattle.differences.specs.Answers.{difference_checks, directional_checks}
+use Rattle.limits.specs.Errors.{Outcome}
 
 -- ---- the covariance of a shape: a slice of three entries
 abbrev pub entry_count : ℕ

@@ -1,44 +1,25 @@
--- Words within their fields, signed numbers and their two's complement, and slots written one by one. Assumes nothing.
+-- Words within their fields, and slots written one by one. Assumes nothing.
 use mathlib.Core.Path.{◌≡◌, refl, sym, ◌∙◌, ap, subst}
-use mathlib.Core.Bool.{Bool, true, false, ◌&&◌, cond, true≢false}
+use mathlib.Core.Bool.{Bool, true, false, ◌&&◌, cond}
 use mathlib.Core.List.{List, [], ◌∷◌}
-use Prim.Native.Nat.{ℕ, zero, suc, ◌+◌, ◌-◌, ◌*◌, ◌%◌, ◌^◌, ◌<◌, ◌≤◌}
+use Prim.Native.Nat.{ℕ, zero, suc, ◌+◌, ◌*◌, ◌%◌, ◌^◌, ◌<◌, ◌≤◌}
 use native.Mathlib.Nat.{add_assoc, le_trans, le-add_right, mul-add-mod_self_left, mod-eq_of_lt}
 use native.Mathlib.Numerals.{add-one}
 use native.Mathlib.Omega.{arith}
-use borrow.Author.Tests.{eqb-true, ltb-true, le-ltb, ne_eqb}
+use borrow.Author.Tests.{eqb-true, ltb-true, ne_eqb}
 use lib.Dec.{eqb, ltb}
 use lib.ListN.{length, get_or}
-use lib.IntN.{ℤ, pos, negsuc, nat_abs, ◌-ℤ◌}
-use lib.Signed.{mag, lt_z}
-use mir.Syntax.{w32, w64}
-use mir.Val.{Fits, SFits, to_z, of_z}
-use mir.ValLaws.{to_z_pos, to_z-of_z}
+use Rattle.std.proofs.Math.Bool.{and-true, and_assoc}
 use Rattle.limits.proofs.Laws.{both_true}
 use Rattle.machine.specs.declared.Slot.{Slot}
 use Rattle.machine.specs.declared.Service.{Service}
 use Rattle.machine.specs.Rules.{Rules, current_rules}
-use Rattle.machine.proofs.Counts.{every_more, every_each}
+use Rattle.machine.proofs.Counts.{every_none, every_more, every_each}
 use Rattle.machine.proofs.Parts.{length_put}
-use Rattle.machine.specs.Slots.{slot_count, slot_at}
+use Rattle.machine.specs.Slots.{slot_count, slot_at, every_place}
 use Rattle.record_words.specs.Words.{word_count, slot_words, word_place, word_at, word_fits, words_fit, fields_fit, slot_fits, words_of_slot, with_slot, with_slots}
 
 -- ---- words within their fields
--- a test after others, one by one or joined first
-joined : (f a b c d e g h i : Bool) → (((((((((f && true) && a) && b) && c) && d) && e) && g) && h) && i) ≡ (f && (a && (b && (c && (d && (e && (g && (h && i))))))))
-joined false a b c d e g h i = refl
-joined true false b c d e g h i = refl
-joined true true false c d e g h i = refl
-joined true true true false d e g h i = refl
-joined true true true true false e g h i = refl
-joined true true true true true false g h i = refl
-joined true true true true true true false h i = refl
-joined true true true true true true true h i = refl
-
-joined_two : (f a b : Bool) → (((f && true) && a) && b) ≡ (f && (a && b))
-joined_two false a b = refl
-joined_two true a b = refl
-
 -- one word more, by any rules
 module _ (rules : Rules) (words : List ℕ) where
   pub fit_next : (n j : ℕ) → words_fit rules words (slot_words rules * n + (j + 1)) ≡ (words_fit rules words (slot_words rules * n + j) && cond (eqb (j % slot_words rules) 0) true (ltb (word_at rules words n j) (2 ^ 32)))
@@ -54,14 +35,19 @@ module _ (words : List ℕ) where
       let next = fit_next current_rules words n in
       let e : 9 * (n + 1) ≡ 9 * n + 9 = omega arith in
       let z : 9 * n + 0 ≡ 9 * n = omega arith in
-      rw (e, next 8, next 7, next 6, next 5, next 4, next 3, next 2, next 1, next 0, z)
-      (joined (words_fit current_rules words (9 * n)) (ltb (word_at current_rules words n 1) (2 ^ 32)) (ltb (word_at current_rules words n 2) (2 ^ 32)) (ltb (word_at current_rules words n 3) (2 ^ 32)) (ltb (word_at current_rules words n 4) (2 ^ 32)) (ltb (word_at current_rules words n 5) (2 ^ 32)) (ltb (word_at current_rules words n 6) (2 ^ 32)) (ltb (word_at current_rules words n 7) (2 ^ 32)) (ltb (word_at current_rules words n 8) (2 ^ 32)))
+      rw (e, next 8, next 7, next 6, next 5, next 4, next 3, next 2, next 1, next 0, z) (simp (and-true, and_assoc))
 
-  pub fit_all : words_fit current_rules words (word_count current_rules) ≡ (words_fit current_rules words (slot_words current_rules * slot_count) && (ltb (word_at current_rules words slot_count 1) (2 ^ 32) && ltb (word_at current_rules words slot_count 2) (2 ^ 32)))
+  -- so the words of the first slots are within their fields where each slot's are
+  pub fit_slots : (n : ℕ) → every_place (slot_fits words) n ≡ words_fit current_rules words (slot_words current_rules * n)
+  fit_slots zero = every_none (slot_fits words) ∙ sym (every_none _)
+  fit_slots (suc n) =
+      let e : suc n ≡ n + 1 = omega arith in
+      rw (e, every_more (slot_fits words) n, fit_slots n, fit_slot n)
+
+  pub fit_all : words_fit current_rules words (word_count current_rules) ≡ (words_fit current_rules words (slot_words current_rules * slot_count) && ltb (word_at current_rules words slot_count 1) (2 ^ 32) && ltb (word_at current_rules words slot_count 2) (2 ^ 32))
   fit_all =
       let next = fit_next current_rules words slot_count in
-      rw (next 2, next 1, next 0)
-      (joined_two (words_fit current_rules words (slot_words current_rules * slot_count)) (ltb (word_at current_rules words slot_count 1) (2 ^ 32)) (ltb (word_at current_rules words slot_count 2) (2 ^ 32)))
+      rw (next 2, next 1, next 0, and-true)
 
 -- what words that hold a record are, by any rules
 module _ (rules : Rules) (words : List ℕ) (fit : fields_fit rules words ≡ true) where
@@ -77,61 +63,6 @@ module _ (rules : Rules) (words : List ℕ) (fit : fields_fit rules words ≡ tr
       let n : eqb (word_place rules place field % slot_words rules) 0 ≡ false =
       ne_eqb (word_place rules place field % slot_words rules) 0 (λ (e : word_place rules place field % slot_words rules ≡ 0). let z : field ≡ 0 = sym m ∙ e in omega arith) in
       ltb-true (word_at rules words place field) (2 ^ 32) (rw n at w)
-
--- ---- signed numbers
-minus_one : (m : ℕ) → negsuc 0 -ℤ pos m ≡ negsuc m
-minus_one zero = refl
-minus_one (suc m) = ap negsuc (omega arith)
-
--- the upper half of 32 bits, as the code counts it down from −1
-pub signed_high : (n : ℕ) → 2147483648 ≤ n → n < 2 ^ 32 → negsuc 0 -ℤ to_z w32 (4294967295 - n) ≡ to_z w32 n
-signed_high n l h =
-    let low : 4294967295 - n < 2 ^ 31 = omega arith in
-    let same : 4294967295 - n ≡ 2 ^ 32 - suc n = omega arith in
-    ap (λ z. negsuc 0 -ℤ z) (to_z_pos w32 (4294967295 - n) low)
-    ∙ minus_one (4294967295 - n)
-    ∙ ap negsuc same
-    ∙ rw (le-ltb n (2 ^ 31) l)
-
--- how far a negative number lies below −1
-down : (v : ℤ) → lt_z v (pos 0) ≡ true → negsuc 0 -ℤ v ≡ pos (mag v)
-down (pos n) h = let g = ltb-true n 0 h in absurd (omega arith)
-down (negsuc n) h = rw (le-ltb (suc n) 1 (omega arith)) (ap pos (omega arith))
-
-pub high_bits : (v : ℤ) → SFits w32 v → lt_z v (pos 0) ≡ true → 4294967295 - mag v ≡ of_z w32 v
-high_bits (pos n) f h = let g = ltb-true n 0 h in absurd (omega arith)
-high_bits (negsuc n) f h = omega arith
-
-pub low_bits : (v : ℤ) → lt_z v (pos 0) ≡ false → nat_abs v ≡ of_z w32 v
-low_bits (pos n) h = refl
-low_bits (negsuc n) h = absurd (true≢false h)
-
-module _ (v : ℤ) (h : SFits w32 v) where
-  pub passes : to_z w32 (of_z w32 v) ≡ v
-  passes = to_z-of_z w32 v h
-
-  pub mag_signed : SFits w32 (pos (mag v))
-  mag_signed = record { sfits = h.sfits }
-
-  pub mag_le : mag v ≤ 4294967295
-  mag_le = let g : mag v < 2 ^ 31 = h.sfits in omega arith
-
-  pub mag_fits : Fits w64 (mag v)
-  mag_fits = let g = mag_le in record { fits = omega arith }
-
-  pub size_fits : Fits w64 (nat_abs v)
-  size_fits = go v h.sfits
-    where
-      go : (v : ℤ) → mag v < 2 ^ 31 → Fits w64 (nat_abs v)
-      go (pos n) g = record { fits = omega arith }
-      go (negsuc n) g = record { fits = omega arith }
-
-  module _ (n : lt_z v (pos 0) ≡ true) where
-    pub counted_down : negsuc 0 -ℤ to_z w32 (of_z w32 v) ≡ pos (mag v)
-    counted_down = ap (λ z. negsuc 0 -ℤ z) passes ∙ down v n
-
-    pub read_back : to_z w32 (of_z w32 (negsuc 0 -ℤ to_z w32 (of_z w32 v))) ≡ pos (mag v)
-    read_back = ap (λ z. to_z w32 (of_z w32 z)) counted_down ∙ to_z-of_z w32 (pos (mag v)) mag_signed
 
 -- ---- the slots written one by one, by any rules
 -- a slot has as many words as the rules say

@@ -4,6 +4,7 @@ pub mod Laws
 pub mod ReadBack
 pub mod Turns
 pub mod Fields
+pub mod Ranges
 pub mod Widened
 pub mod Table
 pub mod Cases

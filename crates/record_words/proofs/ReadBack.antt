@@ -12,7 +12,7 @@ use lib.ListN.{length, get_or}
 use lib.Seq.{get_or-take, get_or-drop}
 use mir.Syntax.{w32}
 use mir.Val.{SFits, of_z}
-use mir.ValLaws.{of_z_fits}
+use mir.ValLaws.{of_z_fits, to_z-of_z}
 use Rattle.averaging.proofs.Images.{same_entries, own_entries}
 use Rattle.machine.proofs.Counts.{every_made}
 use Rattle.machine.proofs.Parts.{part_own, part_other, length_put}
@@ -22,7 +22,7 @@ use Rattle.machine.specs.Rules.{Rules}
 use Rattle.machine.specs.Slots.{slot_at, empty_slot}
 use Rattle.machine.specs.Store.{part, put}
 use Rattle.record_words.specs.Words.{word_count, slot_words, word_at, word_fits, fields_fit, slot_of, slots_of, service_of, words_of_slot, with_slots, with_service}
-use Rattle.record_words.proofs.Laws.{passes, slot_length, slot_end, slots_written_length}
+use Rattle.record_words.proofs.Laws.{slot_length, slot_end, slots_written_length}
 
 -- ---- places of words, of nine words a slot and of eight
 below : (c : Bool) (n m : ℕ) → n ≤ m → cond c 9 8 * n ≤ cond c 9 8 * m + 3
@@ -172,9 +172,9 @@ module _ (rules : Rules) (r : Service) (words : List ℕ) (long : length words �
         word 5 (omega arith),
         word 6 (omega arith),
         word 7 (omega arith),
-        passes s.xx f.xx_fits,
-        passes s.xy f.xy_fits,
-        passes s.yy f.yy_fits,
+        to_z-of_z w32 s.xx f.xx_fits,
+        to_z-of_z w32 s.xy f.xy_fits,
+        to_z-of_z w32 s.yy f.yy_fits,
       )
 
   slots_back : slots_of rules (with_service rules r words) ≡ r.slots

@@ -9,6 +9,7 @@ use native.Mathlib.Numerals.{add-one}
 use native.Mathlib.Omega.{arith}
 use borrow.Author.Tests.{eqb-true, eqb-false, eq-eqb}
 use lib.Dec.{eqb, ltb}
+use Rattle.std.proofs.Math.Bool.{and-true}
 use lib.ListN.{length, get_or, replicate, length-replicate, get_or-replicate}
 use Rattle.averaging.proofs.Images.{same_entries}
 use Rattle.machine.proofs.Counts.{every_none}
@@ -18,10 +19,6 @@ use Rattle.machine.specs.Store.{part, put}
 use Rattle.record_words.specs.Words.{word_count, word_at, words_fit, fields_fit, slot_of, slots_of, service_of, widened_slots, widened}
 use Rattle.record_words.proofs.Laws.{fit_next}
 use Rattle.record_words.proofs.ReadBack.{part_at}
-
-and_true : (b : Bool) → (b && true) ≡ b
-and_true true = refl
-and_true false = refl
 
 -- ---- slot by slot
 pub widened_none : (old words : List ℕ) → widened_slots old 0 words ≡ words
@@ -164,7 +161,7 @@ module _ (old : List ℕ) (long : length old ≡ word_count base_rules) where
       ap (words_fit current_rules (widened old)) nine
       ∙ fit_next current_rules (widened old) n 8
       ∙ ap (λ (w : ℕ). words_fit current_rules (widened old) (9 * n + 8) && ltb w (2 ^ 32)) (no_free n (omega arith))
-      ∙ and_true (words_fit current_rules (widened old) (9 * n + 8))
+      ∙ and-true (words_fit current_rules (widened old) (9 * n + 8))
       ∙ words_are_fit n 8 (omega arith) (λ j l. same_word n j (omega arith) l) (slots_fit n (omega arith)) 8 (omega arith)
       ∙ ap (words_fit base_rules old) (sym eight)
 

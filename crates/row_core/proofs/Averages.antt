@@ -15,13 +15,21 @@ use Rattle.image.specs.Image.{entries}
 use Rattle.averaging.proofs.Images.{length_entries, entry}
 use Rattle.averaging.specs.Steps.{nearest}
 use Rattle.averaging.proofs.Averages.{average_at_most}
-use Rattle.row_core.specs.Prepared.{reciprocal_one, reciprocal_of, kernel_of_coefficients, Prepared, StandsFor, ProductsOf}
+use Rattle.row_core.specs.Weights.{reciprocal_one, reciprocal_of, kernel_of_weights, step_count, Divides, ProductsOf}
+use Rattle.row_core.specs.Prepared.{kernel_of_coefficients, Prepared}
 use Rattle.row_core.specs.Rows.{doubled, pixel_in, Doubled}
 use Rattle.row_core.specs.Stretches.{Pixels}
-use Rattle.row_core.specs.declared.Coefficients.{Coefficients}
-use Rattle.row_core.specs.declared.Products.{Products}
+use Rattle.row_core.specs.declared.coefficients.Coefficients.{Coefficients}
+use Rattle.row_core.specs.declared.weights.Weights.{Weights}
+use Rattle.row_core.specs.declared.weights.Products.{Products}
 use Rattle.row_core.specs.declared.Column.{Column}
 use Rattle.row_core.proofs.Division.{divided, divided_below}
+
+-- all coefficients stand for a kernel
+pub prepared : (c : Coefficients) → Prepared c
+prepared c =
+    let d = c.divides in
+    record { steps = step_count c.weights; sound = d.sound; reciprocal = d.reciprocal_is; half = d.half_is; none_left = d.none_left }
 
 -- ---- a division by twice the sum of the weights
 module _ (c : Coefficients) (prepared : Prepared c) (total : ℕ) (most : total ≤ (kernel_of_coefficients c).sum * doubled largest_pixel) where
@@ -91,8 +99,8 @@ weights_of p =
     ∷ (p.across + p.corners) ∷ (p.down + p.sides) ∷ (p.diagonal + p.corners)
     ∷ []
 
-same_weights : (c : Coefficients) (p : Products) → ProductsOf c p → weights_of p ≡ (kernel_of_coefficients c).weights
-same_weights c p of = rw (of.centre, of.diagonal, of.down, of.across, of.along)
+same_weights : (w : Weights) (p : Products) → ProductsOf w p → weights_of p ≡ (kernel_of_weights w).weights
+same_weights w p of = rw (of.centre, of.diagonal, of.down, of.across, of.along)
 
 -- what the corners, the sides and the centre add
 add_up : (p : Products) (l m r : Column)
@@ -103,13 +111,13 @@ add_up : (p : Products) (l m r : Column)
     ≡ weighted (pixel_in l m r) (weights_of p)
 add_up p l m r = omega arith
 
-pub by_products : (c : Coefficients) (p : Products) → ProductsOf c p → (l m r : Column)
+pub by_products : (w : Weights) (p : Products) → ProductsOf w p → (l m r : Column)
     → p.diagonal * (l.above + r.below) + p.across * (r.above + l.below) + p.corners * (l.above + r.below + (r.above + l.below))
     + (p.down * (m.above + m.below + p.centre_in_column * m.at) + p.along * (l.at + r.at + p.centre_in_row * m.at)
     + p.sides * (m.above + m.below + (l.at + r.at + p.centre_in_row * m.at)))
     + p.centre * (m.at + 0)
-    ≡ weighted (pixel_in l m r) (kernel_of_coefficients c).weights
-by_products c p of l m r = add_up p l m r ∙ ap (weighted (pixel_in l m r)) (same_weights c p of)
+    ≡ weighted (pixel_in l m r) (kernel_of_weights w).weights
+by_products w p of l m r = add_up p l m r ∙ ap (weighted (pixel_in l m r)) (same_weights w p of)
 
 -- ---- the coefficients of a kernel
 
@@ -138,22 +146,25 @@ module _ (kernel : Kernel) (k : ℕ) (sound : Sound kernel k) where
   steps_are = omega (arith, sound.sum)
 
   -- five weights stand for nine, since opposite ones are equal
-  pub stands : (c : Coefficients)
-      → c.diagonal ≡ get_or kernel.weights 0 0 → c.down ≡ get_or kernel.weights 1 0 → c.across ≡ get_or kernel.weights 2 0
-      → c.along ≡ get_or kernel.weights 3 0 → c.centre ≡ get_or kernel.weights 4 0
-      → c.reciprocal ≡ reciprocal_of (kernel.sum / sum_of 1 * 2) → c.half ≡ kernel.sum / 2 → c.rest ≡ kernel.sum % sum_of 1 → StandsFor kernel c
-  stands c diagonal down across along centre reciprocal half rest =
-      let weights : (kernel_of_coefficients c).weights ≡ kernel.weights
-      = rw (diagonal, down, across, along, centre) (sym (nine kernel.weights sound.nine ∙ rw (sound.diagonal, sound.down, sound.across, sound.along))) in
-      let is : kernel_of_coefficients c ≡ kernel = ap₂ (λ ws s. record { weights = ws; sum = s }) weights (omega (arith, ap total weights, sound.whole, sound.sum)) in
-      record {
-        is = is;
-        prepared =
-            record {
-              steps = k;
-              sound = subst (λ (n : Kernel). Sound n k) (sym is) sound;
-              reciprocal = reciprocal ∙ ap reciprocal_of (omega (arith, steps_are));
-              half = half ∙ ap (λ (n : Kernel). n.sum / 2) (sym is);
-              none_left = omega (arith, rest, sound.sum);
-            };
-      }
+  module _ (w : Weights)
+      (diagonal : w.diagonal ≡ get_or kernel.weights 0 0) (down : w.down ≡ get_or kernel.weights 1 0) (across : w.across ≡ get_or kernel.weights 2 0)
+      (along : w.along ≡ get_or kernel.weights 3 0) (centre : w.centre ≡ get_or kernel.weights 4 0)
+    where
+      pub stands : kernel_of_weights w ≡ kernel
+      stands =
+          let weights : (kernel_of_weights w).weights ≡ kernel.weights
+          = rw (diagonal, down, across, along, centre) (sym (nine kernel.weights sound.nine ∙ rw (sound.diagonal, sound.down, sound.across, sound.along))) in
+          ap₂ (λ ws s. record { weights = ws; sum = s }) weights (omega (arith, ap total weights, sound.whole, sound.sum))
+
+      steps : step_count w ≡ k
+      steps = ap (λ (n : Kernel). n.sum / sum_of 1) stands ∙ steps_are
+
+      pub divides : {reciprocal half rest : ℕ}
+          → reciprocal ≡ reciprocal_of (kernel.sum / sum_of 1 * 2) → half ≡ kernel.sum / 2 → rest ≡ kernel.sum % sum_of 1 → Divides w reciprocal half rest
+      divides reciprocal half rest =
+          record {
+            sound = subst (λ (n : Kernel). Sound n (step_count w)) (sym stands) (subst (λ (n : ℕ). Sound kernel n) (sym steps) sound);
+            reciprocal_is = reciprocal ∙ ap reciprocal_of (omega (arith, steps_are, steps));
+            half_is = half ∙ ap (λ (n : Kernel). n.sum / 2) (sym stands);
+            none_left = omega (arith, rest, sound.sum);
+          }

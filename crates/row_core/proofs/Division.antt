@@ -7,7 +7,7 @@ use native.Mathlib.Nat.{mul-le-mul_left, le_of_mul-le-mul_left, lt_of_mul-lt-mul
 use native.Mathlib.Omega.{arith}
 use Rattle.limits.specs.Limits.{largest_pixel, most_steps}
 use Rattle.kernel.specs.Molecule.{sum_of}
-use Rattle.row_core.specs.Prepared.{reciprocal_one, reciprocal_of}
+use Rattle.row_core.specs.Weights.{reciprocal_one, reciprocal_of}
 
 -- a product of two numbers of 32 bits fits 64
 pub product_below : {a b : ℕ} → a < 2 ^ 32 → b < 2 ^ 32 → a * b < 2 ^ 64

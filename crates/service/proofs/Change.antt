@@ -8,18 +8,15 @@ use Prim.Native.Nat.{ℕ, ◌<◌}
 use native.Mathlib.Omega.{arith}
 use borrow.Author.Tests.{eqb-false}
 use lib.Dec.{eqb, leb}
-use lib.ListN.{length, length-map, get_or}
-use lib.Seq.{ext_get_or}
+use lib.ListN.{length, length-map}
+use Rattle.std.specs.Result.{result_unwrap_or}
 use Rattle.limits.specs.Limits.{steps_in_range, sides_in_range, fits_buffer}
 use Rattle.kernel.specs.declared.Choice.TheVariants.{Smallest}
-use Rattle.kernel.specs.declared.FreeAnswer.{FreeAnswer}
 use Rattle.kernel.specs.Molecule.{units_of}
 use Rattle.kernel.specs.Existence.{kernel_exists, free_fits}
 use Rattle.kernel.specs.Choice.{free_by}
 use Rattle.kernel.specs.Answer.{free_answer}
-use Rattle.kernel.proofs.Answers.{free_present}
-use Rattle.image.specs.Image.{entries}
-use Rattle.averaging.proofs.Images.{length_entries, entry, same_entries}
+use Rattle.kernel.proofs.Answers.{present}
 use Rattle.machine.specs.declared.Slot.{Slot}
 use Rattle.machine.specs.declared.Service.{Service}
 use Rattle.machine.specs.Rules.{base_rules, current_rules}
@@ -30,14 +27,8 @@ use Rattle.machine.proofs.Search.{count_same}
 use Rattle.machine.proofs.Counts.{every_same}
 use Rattle.machine.proofs.Orderly.{filled_slot}
 use Rattle.machine.proofs.ChangeOver.{mapped_at, slot_changed, order_changed}
+use Rattle.machine.proofs.Mapped.{mapped_by}
 use Rattle.service.specs.Given.{slot_given, service_given}
-
--- ---- a list made anew entry by entry is the list mapped
-pub mapped : {A B : Type 0} (f : A → B) (d : A) (xs : List A) (n : ℕ) → length xs ≡ n → entries n (λ i. f (get_or xs i d)) ≡ map f xs
-mapped f d xs n e =
-    let many = length_entries n (λ i. f (get_or xs i d)) in
-    ext_get_or (f d) (entries n (λ i. f (get_or xs i d))) (map f xs) (many ∙ sym e ∙ sym (length-map xs f))
-    (λ i h. entry n (λ i. f (get_or xs i d)) (f d) i (omega (arith, many, h)) ∙ sym (mapped_at f d xs i))
 
 -- ---- one slot
 module _ (s : Slot) where
@@ -51,14 +42,14 @@ module _ (s : Slot) where
   fits f = free_fits s.xx s.xy s.yy f (units_of s.steps)
 
   abbrev given : ℕ
-  given = (free_answer Smallest s.xx s.xy s.yy s.steps).free
+  given = result_unwrap_or (free_answer Smallest s.xx s.xy s.yy s.steps) 0
 
   abbrev smallest : ℕ
   smallest = free_by Smallest s.xx s.xy s.yy s.steps
 
   -- where a kernel exists the call answers the smallest f
   given_smallest : steps ≡ true → exists ≡ true → given ≡ smallest
-  given_smallest a b = ap (λ (answer : FreeAnswer). answer.free) (free_present Smallest s.xx s.xy s.yy s.steps a b)
+  given_smallest a b = ap (λ answer. result_unwrap_or answer 0) (present smallest s.xx s.xy s.yy s.steps a b)
 
   -- and where none does no f passes
   alike : (steps && (exists && fits given)) ≡ (steps && (exists && fits smallest))
@@ -76,14 +67,14 @@ of_each zeros filled f g e true = refl
 of_each zeros filled f g e false = e
 
 module _ (r : Service) where
-  slot_given_lem : (i : ℕ) → i < slot_count → slot_at (service_given r) i ≡ slot_given (slot_at r i)
-  slot_given_lem i h = entry slot_count (λ i. slot_given (slot_at r i)) empty_slot i h
+  slot_given_lem : (i : ℕ) → slot_at (service_given r) i ≡ slot_given (slot_at r i)
+  slot_given_lem i = mapped_at slot_given empty_slot r.slots i
 
   -- no number changes
   counts : (n : ℕ) → count_of (has_number n) (service_given r).slots slot_count ≡ count_of (has_number n) (changed_over r).slots slot_count
   counts n =
       count_same (has_number n) (has_number n) (service_given r).slots (changed_over r).slots slot_count
-      (λ i h. ap (has_number n) (slot_given_lem i h) ∙ sym (ap (has_number n) (slot_changed r i)))
+      (λ i h. ap (has_number n) (slot_given_lem i) ∙ sym (ap (has_number n) (slot_changed r i)))
 
   fine_given : (s : Slot) → slot_fine current_rules (service_given r) (slot_given s) ≡ slot_fine current_rules (changed_over r) (changed_slot s)
   unfolding slot_fine all_zero filled_fine
@@ -108,7 +99,7 @@ same_order r = rw (every_same fine fine' slot_count (λ f i h. sym (same i h) �
     fine' i = slot_fine current_rules (changed_over r) (slot_at (changed_over r) i)
 
     same : (i : ℕ) → i < slot_count → fine i ≡ fine' i
-    same i h = ap (slot_fine current_rules (service_given r)) (slot_given_lem r i h) ∙ fine_given r (slot_at r i) ∙ sym (ap (slot_fine current_rules (changed_over r)) (slot_changed r i))
+    same i h = ap (slot_fine current_rules (service_given r)) (slot_given_lem r i) ∙ fine_given r (slot_at r i) ∙ sym (ap (slot_fine current_rules (changed_over r)) (slot_changed r i))
 
 -- THE RECORD THAT THE CODE MAKES IS IN ORDER EXACTLY WHERE THE OLD ONE IS BY THE OLD RULE
 pub given_order : (r : Service) → in_order current_rules (service_given r) ≡ in_order base_rules r
@@ -118,8 +109,8 @@ given_order r = same_order r ∙ order_changed base_rules refl r
 pub given_is : (r : Service) → length r.slots ≡ slot_count → in_order base_rules r ≡ true → service_given r ≡ changed_over r
 given_is r long ordered =
     ap (λ (l : List Slot). record { slots = l; last = r.last; filled = r.filled; served = r.served })
-    (same_entries slot_count (λ i. slot_given (slot_at r i)) (λ i. changed_slot (slot_at r i)) (λ i h. ap (with_free (slot_at r i)) (go i h (is_empty (slot_at r i)) refl))
-    ∙ mapped changed_slot empty_slot r.slots slot_count long)
+    (mapped_by changed_slot empty_slot r.slots (map slot_given r.slots) (length-map r.slots slot_given)
+    (λ i h. slot_given_lem r i ∙ ap (with_free (slot_at r i)) (go i (omega (arith, long, h)) (is_empty (slot_at r i)) refl)))
   where
     go : (i : ℕ) → i < slot_count → (t : Bool) → is_empty (slot_at r i) ≡ t → cond t 0 (given (slot_at r i)) ≡ cond t 0 (smallest (slot_at r i))
     go i h true e = refl

@@ -1,4 +1,4 @@
--- The laws that the proofs share, and worked turns of a tick.
+-- The laws that the proofs share, and worked ticks and change-overs.
 pub mod Laws
-pub mod Cases
 pub mod Change
+pub mod Cases

@@ -1,15 +1,21 @@
 -- The slots whose numbers are new at their places are those whose numbers are unshared, for all of them together, whatever their number: a number that
 -- stands at a place occurs more often after it than before. Assumes nothing.
 use mathlib.Core.Path.{◌≡◌, refl, sym, ◌∙◌}
-use mathlib.Core.Bool.{Bool, true, false, cond, ◌&&◌}
+use mathlib.Core.Bool.{Bool, true, false, not, cond, ◌&&◌, ◌||◌}
 use mathlib.Core.List.{List}
 use Prim.Native.Nat.{ℕ, zero, suc, ◌+◌, ◌<◌, ◌≤◌}
 use native.Mathlib.Omega.{arith}
 use borrow.Author.Tests.{eq-eqb, ne_eqb, eqb-true, eqb-false}
 use lib.Dec.{eqb}
-use lib.ListN.{get_or}
+use lib.ListN.{length, take, get_or}
+use Rattle.std.specs.List.{list_any}
+use Rattle.std.proofs.lemmas.List.Folds.{list_any_more}
+use Rattle.std.proofs.lemmas.List.{get_or-take, length-take-le}
+use Rattle.std.proofs.Math.Bool.{or-true, or-false}
+use native.Mathlib.Numerals.{add-one}
 use Rattle.limits.proofs.Laws.{both_true}
 use Rattle.averaging.proofs.Images.{entry}
+use Rattle.machine.specs.declared.Slot.{Slot}
 use Rattle.machine.specs.declared.Service.{Service}
 use Rattle.machine.specs.Rules.{Rules}
 use Rattle.machine.specs.Slots.{slot_at, is_empty, has_number, count_of, every_place, every_slot}
@@ -19,11 +25,6 @@ use Rattle.slots.specs.Numbers.{number_at, numbers_of, occurrences_of, slot_fine
 
 -- ---- the count of a number
 module _ (numbers : List ℕ) (number : ℕ) where
-  pub occurs_none : (n : ℕ) → n ≤ 0 → occurrences_of numbers number n ≡ 0
-  unfolding occurrences_of
-  occurs_none zero h = refl
-  occurs_none (suc n) h = absurd (omega arith)
-
   pub occurs_hit : (n m : ℕ) → m ≡ suc n → get_or numbers n 0 ≡ number → occurrences_of numbers number m ≡ occurrences_of numbers number n + 1
   unfolding occurrences_of
   occurs_hit n m q e = rw (q, eq-eqb (get_or numbers n 0) number e)
@@ -47,6 +48,33 @@ module _ (numbers : List ℕ) (number : ℕ) where
           → occurrences_of numbers number i < occurrences_of numbers number (suc n)
       go true q f = let here = occurs_hit i (suc n) (let s = eqb-true i n q in omega arith) e in omega arith
       go false q f = let ne = eqb-false i n q in let less = f (omega arith) e in let more = occurs_more n in omega arith
+
+  -- a number occurs nowhere where it is none of the numbers
+  pub occurs_new : (n : ℕ) → n ≤ length numbers → not (list_any (λ m. eqb m number) (take n numbers)) ≡ eqb (occurrences_of numbers number n) 0
+  unfolding occurrences_of
+  occurs_new zero h = refl
+  occurs_new (suc n) h = go (eqb (get_or numbers n 0) number) refl (occurs_new n (omega arith))
+    where
+      more : list_any (λ m. eqb m number) (take (suc n) numbers) ≡ (list_any (λ m. eqb m number) (take n numbers) || eqb (get_or numbers n 0) number)
+      more = rw (← add-one n) (list_any_more (λ m. eqb m number) numbers n 0 (omega arith))
+
+      go : (t : Bool) → eqb (get_or numbers n 0) number ≡ t
+          → not (list_any (λ m. eqb m number) (take n numbers)) ≡ eqb (occurrences_of numbers number n) 0
+          → not (list_any (λ m. eqb m number) (take (suc n) numbers)) ≡ eqb (cond (eqb (get_or numbers n 0) number) (occurrences_of numbers number n + 1) (occurrences_of numbers number n)) 0
+      go true e before = rw (more, e, or-true, ne_eqb (occurrences_of numbers number n + 1) 0 (λ z. omega arith))
+      go false e before = rw (more, e, or-false) before
+
+  -- and as often among the first numbers as among all of them, before a place there
+  pub occurs_taken : (n m : ℕ) → m ≤ n → occurrences_of (take n numbers) number m ≡ occurrences_of numbers number m
+  unfolding occurrences_of
+  occurs_taken n zero h = refl
+  occurs_taken n (suc m) h = let here = get_or-take n numbers m 0 (omega arith) in rw (here, occurs_taken n m (omega arith))
+
+-- the test of a slot after the numbers before it alone
+pub fine_after_taken : (rules : Rules) (last : ℕ) (numbers : List ℕ) (place : ℕ) (s : Slot) → place ≤ length numbers
+    → slot_fine_after rules last (take place numbers) (length (take place numbers)) s ≡ slot_fine_after rules last numbers place s
+unfolding slot_fine_after
+fine_after_taken rules last numbers place s h = rw (length-take-le place numbers h, occurs_taken numbers s.number place place (omega arith))
 
 -- ---- the slots of a record
 -- a last test that passes where another does, of a filled slot

@@ -1,3 +1,3 @@
--- What a search over the slots looks for, and the slots' numbers.
-pub mod Sought
+-- What a search over the slots is told, and the slots' numbers.
+pub mod Searches
 pub mod Numbers

@@ -1,13 +1,11 @@
 -- What the checks of a run say of its kernel and of its pictures. Assumes nothing.
-use mathlib.Core.Path.{◌≡◌, refl, ◌∙◌}
+use mathlib.Core.Path.{◌≡◌, ◌∙◌}
 use mathlib.Core.List.{List, [], ◌∷◌, ◌++◌}
 use Prim.Native.Nat.{ℕ, ◌*◌, ◌≤◌}
 use lib.IntN.{ℤ}
 use borrow.Author.Tests.{eqb-true}
 use Rattle.limits.specs.Limits.{longest_side, most_steps, side_in_range}
-use Rattle.limits.specs.Errors.{Check, ◌otherwise◌, first_refusal, held_after}
-use Rattle.limits.specs.declared.Outcome.{Outcome}
-use Rattle.limits.specs.declared.Outcome.TheVariants.{Accepted, Refused}
+use Rattle.limits.specs.Errors.{Check, ◌otherwise◌, first_refusal, answer_with}
 use Rattle.limits.specs.declared.ErrorCode.{ErrorCode}
 use Rattle.limits.specs.declared.ErrorCode.TheVariants.{NoKernel}
 use Rattle.limits.proofs.Laws.{both_true, in_range_lem}
@@ -16,23 +14,22 @@ use Rattle.kernel.specs.declared.Kernel.{Kernel}
 use Rattle.kernel.specs.Molecule.{units_of}
 use Rattle.kernel.specs.Existence.{kernel_exists}
 use Rattle.kernel.specs.Sound.{Sound}
-use Rattle.kernel.specs.Answer.{answer_with, kernel_answer}
+use Rattle.kernel.specs.Answer.{kernel_answer}
 use Rattle.kernel.proofs.Theorems.{sound_by}
 use Rattle.covariance.specs.declared.Shape.{Shape}
-use Rattle.covariance.specs.declared.Covariance.{Covariance}
 use Rattle.covariance.specs.Shapes.{covariance_xx, covariance_xy, covariance_yy, kernel_of_shape_by}
 use Rattle.covariance.specs.Answer.{covariance_answer}
 use Rattle.covariance.proofs.Answers.{Passed, stopped, kernel_passed}
 use Rattle.row_core.specs.Prepared.{StepKernel}
-use Rattle.averaging.specs.Steps.{steps_of}
 use Rattle.stepping.specs.Step.{PicturePair}
 use Rattle.in_place.specs.Bands.{OnePicture}
 use Rattle.smoothing.specs.Checks.{picture_checks}
-use Rattle.smoothing.specs.Runs.{run_checks, run_with}
-use Rattle.limits.proofs.Checks.{refused_not_accepted, all_hold, in_turn}
+use Rattle.smoothing.specs.Runs.{run_checks}
+use Rattle.limits.proofs.Checks.{all_hold, accepted_alone, refused_alone, in_turn}
+use Rattle.std.specs.Prelude.{Ok, Err}
 
 -- ---- the pictures of a run that no check refuses
-module _ (shape : Shape) (k w h n m : ℕ) (accepted : first_refusal (run_checks shape k w h n m) ≡ Accepted) where
+module _ (shape : Shape) (k w h n m : ℕ) (accepted : first_refusal (run_checks shape k w h n m) ≡ Ok tt) where
   pub fills_pair : PicturePair n m w h × (1 ≤ k)
   fills_pair =
       let holds = (all_hold (run_checks shape k w h n m) accepted).1.1 in
@@ -48,7 +45,7 @@ module _ (shape : Shape) (k w h n m : ℕ) (accepted : first_refusal (run_checks
       )
 
 -- the one picture of a run within it, which stands in both places
-pub fills_one : (shape : Shape) (k w h n : ℕ) → first_refusal (run_checks shape k w h n n) ≡ Accepted → OnePicture n w h
+pub fills_one : (shape : Shape) (k w h n : ℕ) → first_refusal (run_checks shape k w h n n) ≡ Ok tt → OnePicture n w h
 fills_one shape k w h n accepted =
     let p = (fills_pair shape k w h n n accepted).0 in
     record { wide = p.wide; high = p.high; narrow = p.narrow; pixels = p.source }
@@ -58,43 +55,38 @@ abbrev pub kernel_check : Shape → ℕ → List Check
 kernel_check shape k = (kernel_exists (covariance_xx shape) (covariance_xy shape) (covariance_yy shape) (units_of k) otherwise NoKernel) ∷ []
 
 module _ (shape : Shape) (k w h n m : ℕ) where
-  pub shape_refused : (code : ErrorCode) → covariance_answer shape ≡ Covariance.Refused code → first_refusal (run_checks shape k w h n m) ≡ Refused code
+  pub shape_refused : (code : ErrorCode) → covariance_answer shape ≡ Err code → first_refusal (run_checks shape k w h n m) ≡ Err code
   shape_refused code e = stopped shape code (picture_checks k w h n m ++ kernel_check shape k) e
 
   module _ (xx xy yy : ℤ) (p : Passed shape xx xy yy) where
-    pub pictures_refused : (code : ErrorCode) → first_refusal (picture_checks k w h n m) ≡ Refused code → first_refusal (run_checks shape k w h n m) ≡ Refused code
+    pub pictures_refused : (code : ErrorCode) → first_refusal (picture_checks k w h n m) ≡ Err code → first_refusal (run_checks shape k w h n m) ≡ Err code
     pictures_refused code e = rw (p.variances, p.direction) (in_turn (picture_checks k w h n m) (kernel_check shape k) ∙ rw e)
 
-    pub kernel_decides : (choice : Choice) → first_refusal (picture_checks k w h n m) ≡ Accepted
+    pub kernel_decides : (choice : Choice) → first_refusal (picture_checks k w h n m) ≡ Ok tt
         → kernel_answer choice xx xy yy k ≡ answer_with (first_refusal (run_checks shape k w h n m)) (kernel_of_shape_by choice shape k)
     kernel_decides choice e =
         let steps = (all_hold (picture_checks k w h n m) e).0 in
         kernel_passed shape choice k p ∙ rw (p.variances, p.direction, in_turn (picture_checks k w h n m) (kernel_check shape k), e, steps)
 
 -- the kernel of an accepted run is one to make steps with
-pub kernel_sound : (choice : Choice) (shape : Shape) (k w h n m : ℕ) → first_refusal (run_checks shape k w h n m) ≡ Accepted
+pub kernel_sound : (choice : Choice) (shape : Shape) (k w h n m : ℕ) → first_refusal (run_checks shape k w h n m) ≡ Ok tt
     → Sound (kernel_of_shape_by choice shape k) k
 kernel_sound choice shape k w h n m e =
     let holds = all_hold (run_checks shape k w h n m) e in
     sound_by choice (covariance_xx shape) (covariance_xy shape) (covariance_yy shape) k holds.1.1.0 holds.1.1.1.1.1.1.0
 
--- ---- an answer with a kernel, or with a refusal
-module _ (kernel : Kernel) (k : ℕ) where
-  pub step_kernel : (outcome : Outcome) → (outcome ≡ Accepted → Sound kernel k)
-      → (answer_with outcome kernel).outcome ≡ Accepted → StepKernel (answer_with outcome kernel).kernel
-  step_kernel Accepted s e = record { steps = k; sound = s refl }
-  step_kernel (Refused code) s e = absurd (refused_not_accepted e)
+-- ---- a run that has a kernel is accepted, the kernel being that of its shape, and one that has none is refused
+module _ (choice : Choice) (shape : Shape) (k w h n m : ℕ) where
+  pub refused_run : {code : ErrorCode} → answer_with (first_refusal (run_checks shape k w h n m)) (kernel_of_shape_by choice shape k) ≡ Err code
+      → first_refusal (run_checks shape k w h n m) ≡ Err code
+  refused_run {code} e = refused_alone (first_refusal (run_checks shape k w h n m)) (kernel_of_shape_by choice shape k) code e
 
-  pub same_outcome : (outcome : Outcome) → (answer_with outcome kernel).outcome ≡ outcome
-  same_outcome Accepted = refl
-  same_outcome (Refused code) = refl
+  module _ {kernel : Kernel} (made : answer_with (first_refusal (run_checks shape k w h n m)) (kernel_of_shape_by choice shape k) ≡ Ok kernel) where
+    pub accepted_run : first_refusal (run_checks shape k w h n m) ≡ Ok tt
+    accepted_run = (accepted_alone (first_refusal (run_checks shape k w h n m)) (kernel_of_shape_by choice shape k) kernel made).0
 
-  pub same_run : (w h : ℕ) (first second : List ℕ) (outcome : Outcome)
-      → run_with (answer_with outcome kernel).outcome (answer_with outcome kernel).kernel k w h first second ≡ run_with outcome kernel k w h first second
-  same_run w h first second Accepted = refl
-  same_run w h first second (Refused code) = refl
+    pub kernel_of_run : kernel ≡ kernel_of_shape_by choice shape k
+    kernel_of_run = (accepted_alone (first_refusal (run_checks shape k w h n m)) (kernel_of_shape_by choice shape k) kernel made).1
 
-  pub same_held : (w h : ℕ) (picture : List ℕ) (outcome : Outcome)
-      → held_after (answer_with outcome kernel).outcome (steps_of (answer_with outcome kernel).kernel w h k picture) picture ≡ held_after outcome (steps_of kernel w h k picture) picture
-  same_held w h picture Accepted = refl
-  same_held w h picture (Refused code) = refl
+    pub step_kernel : StepKernel kernel
+    step_kernel = rw kernel_of_run (record { steps = k; sound = kernel_sound choice shape k w h n m accepted_run })

@@ -7,7 +7,6 @@ use Prim.Native.Nat.{ℕ, suc, ◌+◌, ◌-◌, ◌*◌, ◌^◌}
 use native.Mathlib.Omega.{arith}
 use lib.ListN.{length}
 use Rattle.limits.specs.Errors.{first_refusal}
-use Rattle.limits.specs.declared.Outcome.TheVariants.{Accepted}
 use Rattle.kernel.specs.declared.Choice.{Choice}
 use Rattle.kernel.specs.declared.Kernel.{Kernel}
 use Rattle.kernel.specs.Molecule.{sum_of}
@@ -21,17 +20,18 @@ use Rattle.averaging.proofs.Extrema.{bright_spots}
 use Rattle.smoothing.specs.Runs.{run_checks, is_even, steps_in_first, steps_in_second, run_of}
 use Rattle.smoothing.proofs.Runs.{fills_pair, kernel_sound}
 use Rattle.smoothing.proofs.Theorems.{shown_after, answers, shows_last}
+use Rattle.std.specs.Prelude.{Ok}
 
 -- the one of a run's two pictures that is not shown: "the other holds step k − 1"
 abbrev pub other_after : Choice → Shape → ℕ → ℕ → ℕ → List ℕ → List ℕ → List ℕ
 other_after choice shape k w h first second =
     cond (is_even k) (run_of choice shape k w h first second).second (run_of choice shape k w h first second).first
 
-module _ (choice : Choice) (shape : Shape) (k w h : ℕ) (first second : List ℕ) (accepted : (run_of choice shape k w h first second).outcome ≡ Accepted) where
+module _ (choice : Choice) (shape : Shape) (k w h : ℕ) (first second : List ℕ) (accepted : (run_of choice shape k w h first second).outcome ≡ Ok tt) where
   abbrev kernel : Kernel
   kernel = kernel_of_shape_by choice shape k
 
-  checked : first_refusal (run_checks shape k w h (length first) (length second)) ≡ Accepted
+  checked : first_refusal (run_checks shape k w h (length first) (length second)) ≡ Ok tt
   checked = sym (answers choice shape k w h first second) ∙ accepted
 
   sound : Sound kernel k
@@ -87,8 +87,8 @@ module _ (choice : Choice) (shape : Shape) (k w h : ℕ) (first second : List �
 
 -- ---- "two pictures of equal sides that differ by at most d at each pixel, smoothed with one shape and step count", and with one
 -- choice
-module _ (choice : Choice) (shape : Shape) (k w h : ℕ) (p p-second q q-second : List ℕ) (p-accepted : (run_of choice shape k w h p p-second).outcome ≡ Accepted)
-    (q-accepted : (run_of choice shape k w h q q-second).outcome ≡ Accepted) (d : ℕ) (differ : Entrywise (Differ d) p q) where
+module _ (choice : Choice) (shape : Shape) (k w h : ℕ) (p p-second q q-second : List ℕ) (p-accepted : (run_of choice shape k w h p p-second).outcome ≡ Ok tt)
+    (q-accepted : (run_of choice shape k w h q q-second).outcome ≡ Ok tt) (d : ℕ) (differ : Entrywise (Differ d) p q) where
   after : (j : ℕ) → Entrywise (Differ d) (steps_of (kernel_of_shape_by choice shape k) w h j p) (steps_of (kernel_of_shape_by choice shape k) w h j q)
   after = (run_bright_spots choice shape k w h p p-second p-accepted).steps_differ d p q (fills choice shape k w h p p-second p-accepted) differ
 

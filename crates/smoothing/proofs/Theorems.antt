@@ -13,8 +13,6 @@ use native.Mathlib.Omega.{arith}
 use lib.ListN.{length, take}
 use lib.Seq.{take_all}
 use Rattle.limits.specs.Errors.{Check, unless, first_refusal}
-use Rattle.limits.specs.declared.Outcome.{Outcome}
-use Rattle.limits.specs.declared.Outcome.TheVariants.{Accepted, Refused}
 use Rattle.limits.specs.declared.ErrorCode.{ErrorCode}
 use Rattle.limits.specs.declared.ErrorCode.TheVariants.{NoKernel}
 use Rattle.limits.proofs.Checks.{refused_not_accepted, all_hold, in_turn}
@@ -35,6 +33,8 @@ use Rattle.smoothing.specs.Checks.{picture_checks}
 use Rattle.smoothing.specs.Runs.{run_checks, is_even, steps_in_first, steps_in_second, Result, run_with, run_of}
 use Rattle.smoothing.specs.Shown.{shown_of}
 use Rattle.smoothing.proofs.Runs.{kernel_check, fills_pair, kernel_sound}
+use Rattle.limits.specs.Errors.{Outcome}
+use Rattle.std.specs.Prelude.{Ok, Err}
 
 -- by the smallest choice a run is one with the kernel of the smallest free number (docs/REFERENCE.md, S2.8)
 pub as_before : (shape : Shape) (k w h : ℕ) (first second : List ℕ)
@@ -56,7 +56,7 @@ module _ (shape : Shape) (k w h : ℕ) (first second : List ℕ) where
   checks = first_refusal (run_checks shape k w h (length first) (length second))
 
   -- of two pictures of w × h pixels the part that is shown is the whole one
-  pub shows_whole : first_refusal (run_checks shape k w h (length first) (length second)) ≡ Accepted
+  pub shows_whole : first_refusal (run_checks shape k w h (length first) (length second)) ≡ Ok tt
       → shown_of shape k w h first second ≡ cond (is_even k) first second
   unfolding shown_of
   shows_whole e =
@@ -75,34 +75,34 @@ module _ (choice : Choice) (shape : Shape) (k w h : ℕ) (first second : List �
   answers = go (first_refusal (run_checks shape k w h (length first) (length second)))
     where
       go : (outcome : Outcome) → (run_with outcome (kernel_of_shape_by choice shape k) k w h first second).outcome ≡ outcome
-      go Accepted = refl
-      go (Refused code) = refl
+      go (Ok done) = refl
+      go (Err code) = refl
 
   -- .. and then both pictures are as they were
-  pub changes_nothing : (code : ErrorCode) → first_refusal (run_checks shape k w h (length first) (length second)) ≡ Refused code
-      → run_of choice shape k w h first second ≡ record { outcome = Refused code; first = first; second = second }
+  pub changes_nothing : (code : ErrorCode) → first_refusal (run_checks shape k w h (length first) (length second)) ≡ Err code
+      → run_of choice shape k w h first second ≡ record { outcome = Err code; first = first; second = second }
   unfolding run_of
   changes_nothing code e = rw e
 
   -- REFUSAL 11 IS ANSWERED EXACTLY WHERE NO NINE WEIGHTS EXIST, in the wide sense, for the shape's numbers: where refusals 3, 4,
   -- 5, 6 and 9, which come before it, do not apply
-  pub refused_eleven : first_refusal (earlier_checks shape k w h first second) ≡ Accepted
-      → ((run_of choice shape k w h first second).outcome ≡ Refused NoKernel) ↔ (Weights (covariance_xx shape) (covariance_xy shape) (covariance_yy shape) (units_of k) → ⊥)
+  pub refused_eleven : first_refusal (earlier_checks shape k w h first second) ≡ Ok tt
+      → ((run_of choice shape k w h first second).outcome ≡ Err NoKernel) ↔ (Weights (covariance_xx shape) (covariance_xy shape) (covariance_yy shape) (units_of k) → ⊥)
   refused_eleven e =
       let core = shape_refused_exactly shape k (all_hold (earlier_checks shape k w h first second) e).1.1.0 in
       (λ r. core.0 (only (shape_has_kernel shape k) refl r), λ none. test (core.1 none))
     where
       -- the test for a kernel decides
-      test : {t : Bool} → shape_has_kernel shape k ≡ t → (run_of choice shape k w h first second).outcome ≡ unless t (Refused NoKernel) Accepted
+      test : {t : Bool} → shape_has_kernel shape k ≡ t → (run_of choice shape k w h first second).outcome ≡ unless t (Err NoKernel) (Ok tt)
       test f = answers ∙ in_turn (earlier_checks shape k w h first second) (kernel_check shape k) ∙ rw (e, f)
 
-      only : (t : Bool) → shape_has_kernel shape k ≡ t → (run_of choice shape k w h first second).outcome ≡ Refused NoKernel → t ≡ false
+      only : (t : Bool) → shape_has_kernel shape k ≡ t → (run_of choice shape k w h first second).outcome ≡ Err NoKernel → t ≡ false
       only true f r = absurd (refused_not_accepted (sym r ∙ test f))
       only false f r = refl
 
   -- ---- the reader
   -- AN EMPTY PART IS SHOWN EXACTLY WHERE THE RUN WITH THE SAME ARGUMENTS IS REFUSED
-  pub shows_none : (shown_of shape k w h first second ≡ []) ↔ ((run_of choice shape k w h first second).outcome ≡ Accepted → ⊥)
+  pub shows_none : (shown_of shape k w h first second ≡ []) ↔ ((run_of choice shape k w h first second).outcome ≡ Ok tt → ⊥)
   unfolding shown_of
   shows_none = (λ none e. only none (sym answers ∙ e), λ refused. always (checks shape k w h first second) refl (λ e. refused (answers ∙ e)))
     where
@@ -110,15 +110,15 @@ module _ (choice : Choice) (shape : Shape) (k w h : ℕ) (first second : List �
       some true full = rw full.source (mul-pos full.wide full.high)
       some false full = rw full.target (mul-pos full.wide full.high)
 
-      only : shown_of shape k w h first second ≡ [] → checks shape k w h first second ≡ Accepted → ⊥
+      only : shown_of shape k w h first second ≡ [] → checks shape k w h first second ≡ Ok tt → ⊥
       only none e =
           let l = some (is_even k) (fills_pair shape k w h (length first) (length second) e).0 in
           let z = ap length (sym (shows_whole shape k w h first second e) ∙ none) in
           omega arith
 
-      always : (outcome : Outcome) → checks shape k w h first second ≡ outcome → (checks shape k w h first second ≡ Accepted → ⊥) → shown_of shape k w h first second ≡ []
-      always Accepted e none = absurd (none e)
-      always (Refused code) e none = rw e
+      always : (outcome : Outcome) → checks shape k w h first second ≡ outcome → (checks shape k w h first second ≡ Ok tt → ⊥) → shown_of shape k w h first second ≡ []
+      always (Ok done) e none = absurd (none e)
+      always (Err code) e none = rw e
 
 -- ---- the reader after the run
 module _ (choice : Choice) (shape : Shape) (k w h : ℕ) (first second : List ℕ) where
@@ -132,11 +132,11 @@ module _ (choice : Choice) (shape : Shape) (k w h : ℕ) (first second : List �
     where
       go : (outcome : Outcome) → first_refusal (run_checks shape k w h (length first) (length second)) ≡ outcome
           → (length (ran outcome).first ≡ length first) × (length (ran outcome).second ≡ length second)
-      go Accepted e =
+      go (Ok done) e =
           let full = (fills_pair shape k w h (length first) (length second) e).0 in
           let left = length_steps (kernel_of_shape_by choice shape k) w h first full.source in
           (left (steps_in_first k) ∙ sym full.source, left (steps_in_second k) ∙ sym full.target)
-      go (Refused code) e = (refl, refl)
+      go (Err code) e = (refl, refl)
 
   -- .. so the same run is refused with what it left exactly where it was refused
   pub same_checks : first_refusal (run_checks shape k w h (length (run_of choice shape k w h first second).first) (length (run_of choice shape k w h first second).second))
@@ -144,14 +144,14 @@ module _ (choice : Choice) (shape : Shape) (k w h : ℕ) (first second : List �
   same_checks = rw (keeps_lengths.0, keeps_lengths.1)
 
   -- AFTER A REFUSED RUN NOTHING IS SHOWN, AND AFTER NO OTHER
-  pub shows_none_after : (shown_after choice shape k w h first second ≡ []) ↔ ((run_of choice shape k w h first second).outcome ≡ Accepted → ⊥)
+  pub shows_none_after : (shown_after choice shape k w h first second ≡ []) ↔ ((run_of choice shape k w h first second).outcome ≡ Ok tt → ⊥)
   shows_none_after =
       let left = run_of choice shape k w h first second in
       let same : (run_of choice shape k w h left.first left.second).outcome ≡ left.outcome =
       answers choice shape k w h left.first left.second ∙ same_checks ∙ sym (answers choice shape k w h first second) in
       rw same at (shows_none choice shape k w h left.first left.second)
 
-  module _ (accepted : first_refusal (run_checks shape k w h (length first) (length second)) ≡ Accepted) where
+  module _ (accepted : first_refusal (run_checks shape k w h (length first) (length second)) ≡ Ok tt) where
     -- what the second picture held counts for nothing
     pub second_unread : (other : List ℕ) → length other ≡ length second → run_of choice shape k w h first other ≡ run_of choice shape k w h first second
     unfolding run_of

@@ -1,12 +1,12 @@
 -- docs/REFERENCE.md, S5.1 to S5.4: a run of k steps within one lent picture. Definitions only.
 use Rattle.std.specs.Prelude.{List, ℕ, length}
 use Rattle.limits.specs.Errors.{first_refusal, held_after}
-use Rattle.limits.specs.declared.Outcome.{Outcome}
 use Rattle.kernel.specs.declared.Choice.{Choice}
 use Rattle.covariance.specs.declared.Shape.{Shape}
 use Rattle.covariance.specs.Shapes.{kernel_of_shape_by}
 use Rattle.averaging.specs.Steps.{steps_of}
 use Rattle.smoothing.specs.Runs.{run_checks}
+use Rattle.limits.specs.Errors.{Outcome}
 
 -- "Sides and lengths are checked as for that run": the lengths of its two pictures are both that of the one
 abbrev pub in_place_outcome : Shape → ℕ → ℕ → ℕ → List ℕ → Outcome

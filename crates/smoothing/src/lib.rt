@@ -1,25 +1,24 @@
 // The run: k smoothing steps between two lent pictures, there and back, and the part of the two that its reader is shown; and the
 // same steps within one lent picture. The public calls take any numbers and any lengths: what does not fit is refused, and then no
-// pixel has changed. Each stands once with a choice of the free number and once without.
+// pixel has changed. Each stands once with a choice of the free number and once without. A picture comes as its pixels,
+// width and height, as C has it.
 #![tactic(auto)]
 
 ghost use Rattle.std.specs.Prelude.{◌≡◌, ◌≤◌, length};
-ghost use Rattle.limits.specs.Errors.{first_refusal, held_after};
+ghost use Rattle.limits.specs.Errors.{first_refusal, answer_with};
 ghost use Rattle.averaging.specs.Steps.{step_of, steps_of};
 ghost use Rattle.row_core.specs.Prepared.{StepKernel};
 ghost use Rattle.stepping.specs.Step.{PicturePair};
-ghost use Rattle.in_place.specs.Bands.{OnePicture};
-ghost use Rattle.kernel.specs.Answer.{answer_with};
 ghost use Rattle.kernel.specs.Choice.{default_choice};
 ghost use Rattle.covariance.specs.Shapes.{kernel_of_shape_by};
 ghost use Rattle.smoothing.specs.Checks.{picture_checks};
-ghost use Rattle.smoothing.specs.Runs.{run_checks, is_even, steps_in_first, steps_in_second, run_with, run_of};
+ghost use Rattle.smoothing.specs.Runs.{run_checks, is_even, steps_in_first, steps_in_second, run_of};
 ghost use Rattle.smoothing.specs.Shown.{shown_of};
 ghost use Rattle.smoothing.specs.InPlace.{in_place_outcome, in_place_after};
 
-use covariance::{Covariance, Shape};
-use kernel::{Choice, Kernel, KernelAnswer};
-use limits::{ErrorCode, Outcome};
+use covariance::Shape;
+use kernel::{Choice, Kernel};
+use limits::ErrorCode;
 
 // Two steps, from the first picture to the second and back.
 fn there_and_back(
@@ -61,61 +60,29 @@ fn run_steps(
     }
 }
 
-// A run with the kernel of an answer, or the refusal that the answer has in its place.
-fn run_with(
-    answer: KernelAnswer,
+// Refusals 5, 6 and 9, the first that applies, of two lent pictures of so many pixels.
+fn checked(
     steps: u32,
     width: u32,
     height: u32,
-    first: &mut [u16],
-    second: &mut [u16],
-) -> Outcome
-    requires step_kernel { answer.outcome ≡ Outcome.Accepted → StepKernel answer.kernel }
-    requires picture_pair { answer.outcome ≡ Outcome.Accepted → PicturePair (length first.old) (length second.old) width height }
-    requires le_steps { answer.outcome ≡ Outcome.Accepted → 1 ≤ steps }
-    ensures value { result ≡ (run_with answer.outcome answer.kernel steps width height first.old second.old).outcome }
-    ensures first_after { first.new ≡ (run_with answer.outcome answer.kernel steps width height first.old second.old).first }
-    ensures second_after { second.new ≡ (run_with answer.outcome answer.kernel steps width height first.old second.old).second }
-{
-    let outcome = answer.outcome;
-    let kernel = answer.kernel;
-    match outcome {
-        Outcome::Accepted => {
-            run_steps(
-                first,
-                second,
-                width as usize,
-                height as usize,
-                steps,
-                kernel,
-            );
-            Outcome::Accepted
-        }
-        Outcome::Refused(code) => Outcome::Refused(code),
-    }
-}
-
-// Refusals 5, 6 and 9, the first that applies, of two lent pictures of so many pixels.
-fn checked(steps: u32, width: u32, height: u32, first: usize, second: usize) -> Outcome
+    first: usize,
+    second: usize,
+) -> Result<(), ErrorCode>
     ensures { result ≡ first_refusal (picture_checks steps width height first second) }
 {
-    let steps_fine = limits::steps_in_range(steps);
-    let sides_fine = limits::sides_in_range(width, height);
-    let first_fine = limits::fills_picture(first, width, height);
-    let second_fine = limits::fills_picture(second, width, height);
-    if !steps_fine {
-        return Outcome::Refused(ErrorCode::StepsOutOfRange);
+    if !limits::steps_in_range(steps) {
+        return Err(ErrorCode::StepsOutOfRange);
     }
-    if !sides_fine {
-        return Outcome::Refused(ErrorCode::SideOutOfRange);
+    if !limits::sides_in_range(width, height) {
+        return Err(ErrorCode::SideOutOfRange);
     }
-    if !first_fine {
-        return Outcome::Refused(ErrorCode::WrongLength);
+    if !limits::fills_picture(first, width, height) {
+        return Err(ErrorCode::WrongLength);
     }
-    if !second_fine {
-        return Outcome::Refused(ErrorCode::WrongLength);
+    if !limits::fills_picture(second, width, height) {
+        return Err(ErrorCode::WrongLength);
     }
-    Outcome::Accepted
+    Ok(())
 }
 
 // The kernel of a run with two pictures of so many pixels, or the first of refusals 3, 4, 5, 6, 9 and 11 that applies.
@@ -127,18 +94,12 @@ fn run_kernel(
     height: u32,
     first: usize,
     second: usize,
-) -> KernelAnswer
+) -> Result<Kernel, ErrorCode>
     ensures { result ≡ answer_with (first_refusal (run_checks shape steps width height first second)) (kernel_of_shape_by choice shape steps) }
 {
-    match covariance::covariance_of(shape) {
-        Covariance::Entries(xx, xy, yy) => {
-            match checked(steps, width, height, first, second) {
-                Outcome::Accepted => kernel::kernel_by(choice, xx, xy, yy, steps),
-                Outcome::Refused(code) => kernel::refused(code),
-            }
-        }
-        Covariance::Refused(code) => kernel::refused(code),
-    }
+    let covariance = covariance::covariance_of(shape)?;
+    checked(steps, width, height, first, second)?;
+    kernel::kernel_by(choice, covariance, steps)
 }
 
 // A run (docs/REFERENCE.md, R3 to R5): the first picture is smoothed in so many steps with the kernel of a shape, or refusal 3, 4,
@@ -152,18 +113,26 @@ pub fn run_by(
     height: u32,
     first: &mut [u16],
     second: &mut [u16],
-) -> Outcome
+) -> Result<(), ErrorCode>
     ensures outcome { result ≡ (run_of choice shape steps width height first.old second.old).outcome }
     ensures first { first.new ≡ (run_of choice shape steps width height first.old second.old).first }
     ensures second { second.new ≡ (run_of choice shape steps width height first.old second.old).second }
 {
     let in_first = first.len();
     let in_second = second.len();
-    let answer = run_kernel(choice, shape, steps, width, height, in_first, in_second);
-    run_with(answer, steps, width, height, first, second)
+    let kernel = run_kernel(choice, shape, steps, width, height, in_first, in_second)?;
+    run_steps(
+        first,
+        second,
+        width as usize,
+        height as usize,
+        steps,
+        kernel,
+    );
+    Ok(())
 }
 
-// The same where no choice is named.
+// The same where no choice is named (REFERENCE, S2.8): a public call, and no twin.
 pub fn run(
     shape: Shape,
     steps: u32,
@@ -171,7 +140,7 @@ pub fn run(
     height: u32,
     first: &mut [u16],
     second: &mut [u16],
-) -> Outcome
+) -> Result<(), ErrorCode>
     ensures outcome { result ≡ (run_of default_choice shape steps width height first.old second.old).outcome }
     ensures first { first.new ≡ (run_of default_choice shape steps width height first.old second.old).first }
     ensures second { second.new ≡ (run_of default_choice shape steps width height first.old second.old).second }
@@ -202,10 +171,8 @@ pub fn shown_by<'a>(
 {
     let in_first = first.len();
     let in_second = second.len();
-    let checked_kernel = run_kernel(choice, shape, steps, width, height, in_first, in_second);
-    let outcome = checked_kernel.outcome;
-    match outcome {
-        Outcome::Accepted => {
+    match run_kernel(choice, shape, steps, width, height, in_first, in_second) {
+        Ok(_) => {
             let size = limits::area(width, height);
             if ends_in_first(steps) {
                 &first[..size]
@@ -213,11 +180,11 @@ pub fn shown_by<'a>(
                 &second[..size]
             }
         }
-        Outcome::Refused(_) => &first[..0],
+        Err(_) => &[],
     }
 }
 
-// The same where no choice is named.
+// The same where no choice is named (REFERENCE, S2.8): a public call, and no twin.
 pub fn shown<'a>(
     shape: Shape,
     steps: u32,
@@ -231,30 +198,6 @@ pub fn shown<'a>(
     shown_by(Choice::Binomial, shape, steps, width, height, first, second)
 }
 
-// The steps of a run with the kernel of an answer within one picture, or the refusal that the answer has in its place.
-fn steps_with(
-    answer: KernelAnswer,
-    steps: u32,
-    width: u32,
-    height: u32,
-    picture: &mut [u16],
-) -> Outcome
-    requires step_kernel { answer.outcome ≡ Outcome.Accepted → StepKernel answer.kernel }
-    requires one_picture { answer.outcome ≡ Outcome.Accepted → OnePicture (length picture.old) width height }
-    ensures value { result ≡ answer.outcome }
-    ensures picture_after { picture.new ≡ held_after answer.outcome (steps_of answer.kernel width height steps picture.old) picture.old }
-{
-    let outcome = answer.outcome;
-    let kernel = answer.kernel;
-    match outcome {
-        Outcome::Accepted => {
-            in_place::steps(picture, width as usize, height as usize, steps, kernel);
-            Outcome::Accepted
-        }
-        Outcome::Refused(code) => Outcome::Refused(code),
-    }
-}
-
 // A run within one picture (docs/REFERENCE.md, S5.1 to S5.4): the picture is smoothed in so many steps with the kernel of a shape, and then
 // holds the last step, or refusal 3, 4, 5, 6, 9 or 11.
 pub fn run_in_place_by(
@@ -264,23 +207,24 @@ pub fn run_in_place_by(
     width: u32,
     height: u32,
     picture: &mut [u16],
-) -> Outcome
+) -> Result<(), ErrorCode>
     ensures outcome { result ≡ in_place_outcome shape steps width height picture.old }
     ensures picture { picture.new ≡ in_place_after choice shape steps width height picture.old }
 {
     let pixels = picture.len();
-    let answer = run_kernel(choice, shape, steps, width, height, pixels, pixels);
-    steps_with(answer, steps, width, height, picture)
+    let kernel = run_kernel(choice, shape, steps, width, height, pixels, pixels)?;
+    in_place::steps(picture, width as usize, height as usize, steps, kernel);
+    Ok(())
 }
 
-// The same where no choice is named.
+// The same where no choice is named (REFERENCE, S2.8): a public call, and no twin.
 pub fn run_in_place(
     shape: Shape,
     steps: u32,
     width: u32,
     height: u32,
     picture: &mut [u16],
-) -> Outcome
+) -> Result<(), ErrorCode>
     ensures outcome { result ≡ in_place_outcome shape steps width height picture.old }
     ensures picture { picture.new ≡ in_place_after default_choice shape steps width height picture.old }
 {

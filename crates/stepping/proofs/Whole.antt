@@ -17,7 +17,7 @@ use Rattle.row_core.proofs.Pixels.{part_pixels, padded_doubled}
 use Rattle.row_core.proofs.Rows.{length_padded, row_inside, line_of}
 use Rattle.stepping.specs.Buffers.{row_from, WindowInside}
 use Rattle.stepping.specs.Whole.{line_at, HoldsRows, Readable}
-use Rattle.stepping.specs.declared.Window.{Window}
+use Rattle.row_core.specs.declared.Starts.{Starts}
 use Rattle.row_core.proofs.Parts.{part_written}
 use Rattle.stepping.proofs.Buffers.{part_kept}
 use Rattle.stepping.proofs.Windows.{inside}
@@ -43,7 +43,7 @@ pub lines_doubled : (lines source : List ℕ) (w h : ℕ) → HoldsRows lines w 
 lines_doubled lines source w h holds pixels y l = rw (holds.held y l) (padded_doubled (part (y * w) w source) (part_pixels (y * w) w source pixels))
 
 -- a window at row y of h: the lines of the rows nearest above, at and below it
-pub record Around (v : Window) (w h y : ℕ) : Type 0 where
+pub record Around (v : Starts) (w h y : ℕ) : Type 0 where
   pub above : v.above ≡ (y - 1) * (w + 2)
   pub at : v.at ≡ y * (w + 2)
   pub below : v.below ≡ min (y + 1) (h - 1) * (w + 2)
@@ -63,11 +63,11 @@ least_line s a b = go (ltb a b) (ltb→lt a b) (nltb→le a b)
         rw second (omega (arith, mul-le-mul_right s l))
 
 -- a window that is a row further down, as `Window::next` makes it
-abbrev Below : Window → Window → ℕ → ℕ → Type 0
+abbrev Below : Starts → Starts → ℕ → ℕ → Type 0
 Below v u size last = (u.above ≡ v.at) × (u.at ≡ v.below) × (u.below ≡ min (v.below + size) last)
 
 -- the window at row 0, from one whose lines are all that of row 0
-pub around_first : (w h : ℕ) (v u : Window) → v.at ≡ 0 → v.below ≡ 0 → Below v u (w + 2) ((h - 1) * (w + 2)) → Around u w h 0
+pub around_first : (w h : ℕ) (v u : Starts) → v.at ≡ 0 → v.below ≡ 0 → Below v u (w + 2) ((h - 1) * (w + 2)) → Around u w h 0
 around_first w h v u at below (ea, et, eb) =
     let none = zero-mul (w + 2) in
     record {
@@ -77,7 +77,7 @@ around_first w h v u at below (ea, et, eb) =
     }
 
 -- and at the next row
-pub around_next : (w h y : ℕ) (v u : Window) → y + 1 < h → Around v w h y → Below v u (w + 2) ((h - 1) * (w + 2)) → Around u w h (y + 1)
+pub around_next : (w h y : ℕ) (v u : Starts) → y + 1 < h → Around v w h y → Below v u (w + 2) ((h - 1) * (w + 2)) → Around u w h (y + 1)
 around_next w h y v u l around (ea, et, eb) =
     let here : min (y + 1) (h - 1) ≡ y + 1 = omega (arith, l) in
     let below : v.below ≡ (y + 1) * (w + 2) = around.below ∙ ap (λ (n : ℕ). n * (w + 2)) here in
@@ -87,7 +87,7 @@ around_next w h y v u l around (ea, et, eb) =
       below = eb ∙ ap (λ (n : ℕ). min (n + (w + 2)) ((h - 1) * (w + 2))) below ∙ least_line (w + 2) (y + 1) (h - 1);
     }
 
-module _ (lines : List ℕ) (w h : ℕ) (v : Window) (y : ℕ) (low : y < h) (around : Around v w h y) where
+module _ (lines : List ℕ) (w h : ℕ) (v : Starts) (y : ℕ) (low : y < h) (around : Around v w h y) where
   -- its lines lie inside
   pub around_inside : (n m i : ℕ) → Readable lines n w h → i + w ≤ m → WindowInside lines v m i w
   around_inside n m i r row =

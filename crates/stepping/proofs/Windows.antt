@@ -10,11 +10,11 @@ use Rattle.row_core.specs.Rows.{padded_of, AllDoubled, part}
 use Rattle.row_core.proofs.Parts.{length_part, part_written}
 use Rattle.row_core.proofs.Rows.{length_padded}
 use Rattle.stepping.specs.Buffers.{WindowInside, Slots, Loaded}
-use Rattle.stepping.specs.declared.Window.{Window}
+use Rattle.row_core.specs.declared.Starts.{Starts}
 use Rattle.stepping.proofs.Buffers.{part_kept, apart_sym}
 
 -- a window of lines, and a row that fits
-pub inside : (l : List ℕ) (v : Window) (m i w : ℕ) → v.above + (w + 2) ≤ length l → v.at + (w + 2) ≤ length l → v.below + (w + 2) ≤ length l
+pub inside : (l : List ℕ) (v : Starts) (m i w : ℕ) → v.above + (w + 2) ≤ length l → v.at + (w + 2) ≤ length l → v.below + (w + 2) ≤ length l
     → AllDoubled (part v.above (w + 2) l) → AllDoubled (part v.at (w + 2) l) → AllDoubled (part v.below (w + 2) l) → i + w ≤ m → WindowInside l v m i w
 inside l v m i w above at below pa pt pb row =
     record {
@@ -34,13 +34,13 @@ inside l v m i w above at below pa pt pb row =
     }
 
 -- the buffers l after row r was loaded below
-pub record Below (l o : List ℕ) (v : Window) (w : ℕ) (r : List ℕ) : Type 0 where
+pub record Below (l o : List ℕ) (v : Starts) (w : ℕ) (r : List ℕ) : Type 0 where
   pub size : length o ≡ length l
   pub above : part v.above (w + 2) o ≡ part v.above (w + 2) l
   pub at : part v.at (w + 2) o ≡ part v.at (w + 2) l
   pub below : part v.below (w + 2) o ≡ padded_of r
 
-pub load_below : (l : List ℕ) (v : Window) (w : ℕ) (r : List ℕ) {o : List ℕ} → Slots (length l) (w + 2) v → length r ≡ w
+pub load_below : (l : List ℕ) (v : Starts) (w : ℕ) (r : List ℕ) {o : List ℕ} → Slots (length l) (w + 2) v → length r ≡ w
     → o ≡ paste l v.below (padded_of r) (w + 2) → Below l o v w r
 load_below l v w r slots lr e =
     let n : length (padded_of r) ≡ w + 2 = length_padded r ∙ ap (λ (m : ℕ). m + 2) lr in
@@ -52,7 +52,7 @@ load_below l v w r slots lr e =
     }
 
 -- then the line at holds the row b, and a row further down is loaded
-pub move_down : (l o : List ℕ) (v u : Window) (w : ℕ) (b c : List ℕ) → Slots (length l) (w + 2) v → part v.at (w + 2) l ≡ padded_of b → Below l o v w c
+pub move_down : (l o : List ℕ) (v u : Starts) (w : ℕ) (b c : List ℕ) → Slots (length l) (w + 2) v → part v.at (w + 2) l ≡ padded_of b → Below l o v w c
     → (u.above ≡ v.at) × (u.at ≡ v.below) × (u.below ≡ v.above) → Loaded o u w b c
 move_down l o v u w b c s at below (ea, et, eb) =
     record {

@@ -4,22 +4,23 @@
 // Between two lent slices the rows of the source pass through three line buffers, from which the row core makes the rows of the
 // target. A small image can be loaded whole, so that its target may stand in the slice that it was read from.
 //
-// Which products a kernel needs is asked where the rows are made (`step_row`, `step_all`), and each answer has a call of its
-// own, so that the compiler makes a loop for it. A small image asks once for all rows, since its rows are short.
+// Which products a kernel needs is asked where the rows are made (`step_row`, `step_all`), and for each answer the compiler makes a
+// loop of its own. A small image asks once for all rows, since its rows are short.
 #![tactic(auto)]
 
 ghost use Rattle.std.specs.Prelude.{◌≡◌, List, ℕ, ◌+◌, ◌-◌, ◌*◌, ◌^◌, ◌<◌, ◌≤◌, min, length};
 ghost use Rattle.std.proofs.Math.Seq.{paste};
 ghost use Rattle.limits.specs.Limits.{longest_side};
 ghost use Rattle.averaging.specs.Steps.{step_of};
-ghost use Rattle.row_core.specs.Prepared.{StepKernel, kernel_of_coefficients, Prepared, ProductsOf};
+ghost use Rattle.row_core.specs.Prepared.{StepKernel, kernel_of_coefficients};
 ghost use Rattle.row_core.specs.Rows.{part, padded_of};
+ghost use Rattle.row_core.specs.declared.Starts.{Starts};
 ghost use Rattle.stepping.specs.Step.{PicturePair};
 ghost use Rattle.stepping.specs.Buffers.{row_from, Loadable, WindowInside, Loaded, Turn, WindowHolds};
 ghost use Rattle.stepping.specs.Whole.{small_lines, Loads, HoldsRows, Readable};
 
 use kernel::Kernel;
-use row_core::{Coefficients, Products};
+use row_core::{Coefficients, Maker, Recipe, Starts};
 
 // Room for three lines, each of 1024 pixels and one more on both sides.
 pub const LINES: usize = 3 * (limits::LONGEST_SIDE as usize + 2);
@@ -28,53 +29,38 @@ pub const LINES: usize = 3 * (limits::LONGEST_SIDE as usize + 2);
 // to clear.
 pub const SMALL_LINES: usize = limits::BUFFER_PIXELS + 2 * 64;
 
-// Where the lines of the rows above, at and below stand in the line buffers.
-#[derive(Clone, Copy)]
-struct Window {
-    above: usize,
-    at: usize,
-    below: usize,
+// A row further down, where the lines of the rows above, at and below it stand in the line buffers: the line of the row above
+// comes free for the row to come.
+fn down(window: Starts) -> Starts
+    ensures { (result.above ≡ window.at) × (result.at ≡ window.below) × (result.below ≡ window.above) }
+{
+    Starts {
+        above: window.at,
+        at: window.below,
+        below: window.above,
+    }
 }
 
-impl Window {
-    // A row further down: the line of the row above comes free for the row to come.
-    fn down(self) -> Window
-        ensures { (result.above ≡ self.at) × (result.at ≡ self.below) × (result.below ≡ self.above) }
-    {
-        Window {
-            above: self.at,
-            at: self.below,
-            below: self.above,
-        }
+// A row further down of an image that is loaded whole: below its last row stands the row itself.
+fn next_down(window: Starts, size: usize, last: usize) -> Starts
+    requires { window.below + size < 2 ^ 64 }
+    ensures { (result.above ≡ window.at) × (result.at ≡ window.below) × (result.below ≡ min (window.below + size) last) }
+{
+    let at = window.below;
+    Starts {
+        above: window.at,
+        at,
+        below: last.min(at + size),
     }
+}
 
-    // A row further down of an image that is loaded whole: below its last row stands the row itself.
-    fn next(self, size: usize, last: usize) -> Window
-        requires { self.below + size < 2 ^ 64 }
-        ensures { (result.above ≡ self.at) × (result.at ≡ self.below) × (result.below ≡ min (self.below + size) last) }
-    {
-        let at = self.below;
-        let next = at + size;
-        let mut below = last;
-        if next < last {
-            below = next;
-        }
-        Window {
-            above: self.at,
-            at,
-            below,
-        }
-    }
-
-    // At the last row, which has itself below it.
-    fn bottom(self) -> Window
-        ensures { (result.above ≡ self.above) × (result.at ≡ self.at) × (result.below ≡ self.at) }
-    {
-        Window {
-            above: self.above,
-            at: self.at,
-            below: self.at,
-        }
+// At the last row, which has itself below it.
+fn bottom(window: Starts) -> Starts
+    ensures { (result.above ≡ window.above) × (result.at ≡ window.at) × (result.below ≡ window.at) }
+{
+    Starts {
+        below: window.at,
+        ..window
     }
 }
 
@@ -89,172 +75,40 @@ fn load_line(source: &[u16], lines: &mut [u32], row: usize, line: usize, width: 
 }
 
 // The row of the target at an index, from the lines of a window.
+#[inline(always)]
 fn step_row_with(
+    recipe: Recipe,
     lines: &[u32],
-    window: Window,
+    window: Starts,
     target: &mut [u16],
     row: usize,
     width: usize,
-    coefficients: Coefficients,
-    products: Products,
 )
-    requires prepared { Prepared coefficients × ProductsOf coefficients products }
-    requires window_inside { WindowInside lines.now window (length target.old) row width }
-    ensures { target.new ≡ paste target.old row (row_from (kernel_of_coefficients coefficients) width window lines.now) width }
+    requires { WindowInside lines.now window (length target.old) row width }
+    ensures { target.new ≡ paste target.old row (row_from (kernel_of_coefficients recipe.coefficients) width window lines.now) width }
 {
-    let size = width + 2;
-    let above = window.above;
-    let at = window.at;
-    let below = window.below;
-    let above_end = above + size;
-    let at_end = at + size;
-    let below_end = below + size;
     let row_end = row + width;
-    row_core::smooth_row(
-        &lines[above..above_end],
-        &lines[at..at_end],
-        &lines[below..below_end],
-        &mut target[row..row_end],
-        coefficients,
-        products,
-    );
+    recipe.smooth_row(window.rows(lines, width + 2), &mut target[row..row_end]);
 }
 
-// By the products of a kernel whose corners weigh the same, and whose sides do.
-fn step_round_row(
-    lines: &[u32],
-    window: Window,
-    target: &mut [u16],
-    row: usize,
-    width: usize,
-    coefficients: Coefficients,
-)
-    requires prepared { Prepared coefficients × (coefficients.across ≡ coefficients.diagonal) × (coefficients.along ≡ coefficients.down) }
-    requires window_inside { WindowInside lines.now window (length target.old) row width }
-    ensures { target.new ≡ paste target.old row (row_from (kernel_of_coefficients coefficients) width window lines.now) width }
-{
-    let c = coefficients;
-    if c.diagonal == 0 {
-        step_row_with(lines, window, target, row, width, c, c.even_cross());
-        return;
-    }
-    if c.centre as u64 == 2 * (c.along as u64) {
-        step_row_with(lines, window, target, row, width, c, c.round_wide());
-        return;
-    }
-    step_row_with(lines, window, target, row, width, c, c.round());
-}
-
-// Of one whose corners weigh the same.
-fn step_upright_row(
-    lines: &[u32],
-    window: Window,
-    target: &mut [u16],
-    row: usize,
-    width: usize,
-    coefficients: Coefficients,
-)
-    requires prepared { Prepared coefficients × (coefficients.across ≡ coefficients.diagonal) }
-    requires window_inside { WindowInside lines.now window (length target.old) row width }
-    ensures { target.new ≡ paste target.old row (row_from (kernel_of_coefficients coefficients) width window lines.now) width }
-{
-    let c = coefficients;
-    if c.centre as u64 == 2 * (c.along as u64) {
-        step_row_with(lines, window, target, row, width, c, c.upright_wide());
-        return;
-    }
-    if c.centre as u64 == 2 * (c.down as u64) {
-        step_row_with(lines, window, target, row, width, c, c.upright_tall());
-        return;
-    }
-    step_row_with(lines, window, target, row, width, c, c.upright());
-}
-
-// Of one with a centre and corners on both diagonals.
-fn step_full_row(
-    lines: &[u32],
-    window: Window,
-    target: &mut [u16],
-    row: usize,
-    width: usize,
-    coefficients: Coefficients,
-)
-    requires prepared { Prepared coefficients }
-    requires window_inside { WindowInside lines.now window (length target.old) row width }
-    ensures { target.new ≡ paste target.old row (row_from (kernel_of_coefficients coefficients) width window lines.now) width }
-{
-    let c = coefficients;
-    if c.centre as u64 == 2 * (c.along as u64) {
-        step_row_with(lines, window, target, row, width, c, c.full_wide());
-        return;
-    }
-    if c.centre as u64 == 2 * (c.down as u64) {
-        step_row_with(lines, window, target, row, width, c, c.full_tall());
-        return;
-    }
-    step_row_with(lines, window, target, row, width, c, c.full());
-}
-
-// Of any kernel; asked where corners do not weigh the same.
-fn step_leaning_row(
-    lines: &[u32],
-    window: Window,
-    target: &mut [u16],
-    row: usize,
-    width: usize,
-    coefficients: Coefficients,
-)
-    requires prepared { Prepared coefficients }
-    requires window_inside { WindowInside lines.now window (length target.old) row width }
-    ensures { target.new ≡ paste target.old row (row_from (kernel_of_coefficients coefficients) width window lines.now) width }
-{
-    let c = coefficients;
-    if c.across == 0 {
-        step_row_with(lines, window, target, row, width, c, c.falling());
-        return;
-    }
-    if c.diagonal == 0 {
-        step_row_with(lines, window, target, row, width, c, c.rising());
-        return;
-    }
-    if c.centre == 0 {
-        step_row_with(lines, window, target, row, width, c, c.hollow());
-        return;
-    }
-    step_full_row(lines, window, target, row, width, c);
-}
-
-// The row of the target at an index, from the lines of a window, by the products that the kernel needs.
+// The same by the products that the kernel needs.
 fn step_row(
     lines: &[u32],
-    window: Window,
+    window: Starts,
     target: &mut [u16],
     row: usize,
     width: usize,
     coefficients: Coefficients,
 )
-    requires prepared { Prepared coefficients }
-    requires window_inside { WindowInside lines.now window (length target.old) row width }
+    requires { WindowInside lines.now window (length target.old) row width }
     ensures { target.new ≡ paste target.old row (row_from (kernel_of_coefficients coefficients) width window lines.now) width }
 {
-    let c = coefficients;
-    if c.across == c.diagonal {
-        if c.along == c.down {
-            step_round_row(lines, window, target, row, width, c);
-            return;
-        }
-        if c.diagonal == 0 {
-            step_row_with(lines, window, target, row, width, c, c.cross());
-            return;
-        }
-        step_upright_row(lines, window, target, row, width, c);
-        return;
-    }
-    step_leaning_row(lines, window, target, row, width, c);
+    let row_end = row + width;
+    coefficients.make(&mut target[row..row_end], window.rows(lines, width + 2));
 }
 
 // The first row of the source, into the lines above and at: above it stands the row itself.
-fn load_first(source: &[u16], lines: &mut [u32], width: usize) -> Window
+fn load_first(source: &[u16], lines: &mut [u32], width: usize) -> Starts
     requires { (1 ≤ width) × (width ≤ length source.now) × (3 * (width + 2) ≤ length lines.old) }
     ensures { Loaded lines.new result width (part 0 width source.now) (part 0 width source.now) }
 {
@@ -262,7 +116,7 @@ fn load_first(source: &[u16], lines: &mut [u32], width: usize) -> Window
     let below = at + at;
     load_line(source, lines, 0, 0, width);
     load_line(source, lines, 0, at, width);
-    Window {
+    Starts {
         above: 0,
         at,
         below,
@@ -271,43 +125,18 @@ fn load_first(source: &[u16], lines: &mut [u32], width: usize) -> Window
 
 // Loads the row below a row of the source, into the line that no row needs any more, and answers the window around the row. The
 // last row has itself below it.
-fn load_below(source: &[u16], lines: &mut [u32], window: Window, row: usize, width: usize) -> Window
+fn load_below(source: &[u16], lines: &mut [u32], window: Starts, row: usize, width: usize) -> Starts
     requires { Turn source.now lines.old window row width }
     ensures window_holds { WindowHolds lines.new result width (part window.above (width + 2) lines.old) (padded_of (part row width source.now)) (padded_of (part (min (row + width) (length source.now - width)) width source.now)) }
-    ensures lines_len_unchanged { (length lines.new ≡ length lines.old) × (row + width < length source.now → (v : Window) → (v.above ≡ window.at) × (v.at ≡ window.below) × (v.below ≡ window.above) → Loaded lines.new v width (part row width source.now) (part (row + width) width source.now)) }
+    ensures lines_len_unchanged { (length lines.new ≡ length lines.old) × (row + width < length source.now → (v : Starts) → (v.above ≡ window.at) × (v.at ≡ window.below) × (v.below ≡ window.above) → Loaded lines.new v width (part row width source.now) (part (row + width) width source.now)) }
 {
     let next = row + width;
     if next < source.len() {
         let free = window.below;
         load_line(source, lines, next, free, width);
-        return window;
-    }
-    window.bottom()
-}
-
-// One step through line buffers, a row at a time.
-fn step_through(
-    source: &[u16],
-    target: &mut [u16],
-    lines: &mut [u32],
-    width: usize,
-    height: usize,
-    coefficients: Coefficients,
-)
-    requires prepared { Prepared coefficients }
-    requires picture_pair { PicturePair (length source.now) (length target.old) width height }
-    requires width_in_bounds { 3 * (width + 2) ≤ length lines.old }
-    ensures { target.new ≡ step_of (kernel_of_coefficients coefficients) width height source.now }
-{
-    let mut window = load_first(source, lines, width);
-    let mut row = 0usize;
-    let mut y = 0usize;
-    while y < height {
-        let around = load_below(source, lines, window, row, width);
-        step_row(lines, around, target, row, width, coefficients);
-        window = window.down();
-        row += width;
-        y += 1;
+        window
+    } else {
+        bottom(window)
     }
 }
 
@@ -329,159 +158,42 @@ pub fn load_all(source: &[u16], lines: &mut [u32], width: usize, height: usize)
     ensures { HoldsRows lines.new width height source.now }
 {
     let size = width + 2;
-    let mut row = 0usize;
-    let mut line = 0usize;
-    let mut done = 0usize;
-    while done < height {
-        load_line(source, lines, row, line, width);
-        row += width;
-        line += size;
-        done += 1;
+    for done in 0..height {
+        load_line(source, lines, done * width, done * size, width);
     }
 }
 
-// The line of the last row of an image that is loaded whole.
-fn last_line(lines: &[u32], width: usize, height: usize) -> usize
-    requires { (1 ≤ height) × (height * (width + 2) ≤ length lines.now) }
-    ensures { result ≡ (height - 1) * (width + 2) }
-{
-    (height - 1) * (width + 2)
-}
-
-// One step of an image whose rows were loaded. The line of the last row is told: to work it out here would make the function
-// too large for the compiler to draw it into each of its callers.
-fn step_all_with(
-    lines: &[u32],
-    target: &mut [u16],
+// All rows of an image, each in its line, one after the other.
+#[derive(Clone, Copy)]
+struct AllLines<'a> {
+    lines: &'a [u32],
     width: usize,
     height: usize,
-    last: usize,
-    coefficients: Coefficients,
-    products: Products,
-)
-    requires prepared { Prepared coefficients × ProductsOf coefficients products }
-    requires readable { Readable lines.now (length target.old) width height × (last ≡ (height - 1) * (width + 2)) }
-    ensures { (source : List ℕ) → length source ≡ width * height → HoldsRows lines.now width height source → target.new ≡ step_of (kernel_of_coefficients coefficients) width height source }
-{
-    let size = width + 2;
-    let first = Window {
-        above: 0,
-        at: 0,
-        below: 0,
-    };
-    let mut window = first.next(size, last);
-    let mut row = 0usize;
-    let mut done = 0usize;
-    while done < height {
-        step_row_with(lines, window, target, row, width, coefficients, products);
-        window = window.next(size, last);
-        row += width;
-        done += 1;
-    }
 }
 
-// By the products of a kernel whose corners weigh the same, and whose sides do.
-fn step_round_all(
-    lines: &[u32],
-    target: &mut [u16],
-    width: usize,
-    height: usize,
-    last: usize,
-    coefficients: Coefficients,
-)
-    requires prepared { Prepared coefficients × (coefficients.across ≡ coefficients.diagonal) × (coefficients.along ≡ coefficients.down) }
-    requires readable { Readable lines.now (length target.old) width height × (last ≡ (height - 1) * (width + 2)) }
-    ensures { (source : List ℕ) → length source ≡ width * height → HoldsRows lines.now width height source → target.new ≡ step_of (kernel_of_coefficients coefficients) width height source }
-{
-    let c = coefficients;
-    if c.diagonal == 0 {
-        step_all_with(lines, target, width, height, last, c, c.even_cross());
-        return;
-    }
-    if c.centre as u64 == 2 * (c.along as u64) {
-        step_all_with(lines, target, width, height, last, c, c.round_wide());
-        return;
-    }
-    step_all_with(lines, target, width, height, last, c, c.round());
-}
+// The next image, a row at a time. It goes wherever it is called, as the row core does, so that each kind of kernel has its loop.
+impl Maker for AllLines<'_> {
+    ghost takes = { λ all pixels. Readable all.lines.now (length pixels) all.width all.height };
 
-// Of one whose corners weigh the same.
-fn step_upright_all(
-    lines: &[u32],
-    target: &mut [u16],
-    width: usize,
-    height: usize,
-    last: usize,
-    coefficients: Coefficients,
-)
-    requires prepared { Prepared coefficients × (coefficients.across ≡ coefficients.diagonal) }
-    requires readable { Readable lines.now (length target.old) width height × (last ≡ (height - 1) * (width + 2)) }
-    ensures { (source : List ℕ) → length source ≡ width * height → HoldsRows lines.now width height source → target.new ≡ step_of (kernel_of_coefficients coefficients) width height source }
-{
-    let c = coefficients;
-    if c.centre as u64 == 2 * (c.along as u64) {
-        step_all_with(lines, target, width, height, last, c, c.upright_wide());
-        return;
-    }
-    if c.centre as u64 == 2 * (c.down as u64) {
-        step_all_with(lines, target, width, height, last, c, c.upright_tall());
-        return;
-    }
-    step_all_with(lines, target, width, height, last, c, c.upright());
-}
+    ghost makes = { λ all k pixels made. (source : List ℕ) → length source ≡ all.width * all.height → HoldsRows all.lines.now all.width all.height source → made ≡ step_of k all.width all.height source };
 
-// Of one with a centre and corners on both diagonals.
-fn step_full_all(
-    lines: &[u32],
-    target: &mut [u16],
-    width: usize,
-    height: usize,
-    last: usize,
-    coefficients: Coefficients,
-)
-    requires prepared { Prepared coefficients }
-    requires readable { Readable lines.now (length target.old) width height × (last ≡ (height - 1) * (width + 2)) }
-    ensures { (source : List ℕ) → length source ≡ width * height → HoldsRows lines.now width height source → target.new ≡ step_of (kernel_of_coefficients coefficients) width height source }
-{
-    let c = coefficients;
-    if c.centre as u64 == 2 * (c.along as u64) {
-        step_all_with(lines, target, width, height, last, c, c.full_wide());
-        return;
+    #[inline(always)]
+    fn make(self, recipe: Recipe, target: &mut [u16]) {
+        let width = self.width;
+        let height = self.height;
+        let size = width + 2;
+        let last = (height - 1) * size;
+        let first = Starts {
+            above: 0,
+            at: 0,
+            below: 0,
+        };
+        let mut window = next_down(first, size, last);
+        for y in 0..height {
+            step_row_with(recipe, self.lines, window, target, y * width, width);
+            window = next_down(window, size, last);
+        }
     }
-    if c.centre as u64 == 2 * (c.down as u64) {
-        step_all_with(lines, target, width, height, last, c, c.full_tall());
-        return;
-    }
-    step_all_with(lines, target, width, height, last, c, c.full());
-}
-
-// Of any kernel; asked where corners do not weigh the same.
-fn step_leaning_all(
-    lines: &[u32],
-    target: &mut [u16],
-    width: usize,
-    height: usize,
-    last: usize,
-    coefficients: Coefficients,
-)
-    requires prepared { Prepared coefficients }
-    requires readable { Readable lines.now (length target.old) width height × (last ≡ (height - 1) * (width + 2)) }
-    ensures { (source : List ℕ) → length source ≡ width * height → HoldsRows lines.now width height source → target.new ≡ step_of (kernel_of_coefficients coefficients) width height source }
-{
-    let c = coefficients;
-    if c.across == 0 {
-        step_all_with(lines, target, width, height, last, c, c.falling());
-        return;
-    }
-    if c.diagonal == 0 {
-        step_all_with(lines, target, width, height, last, c, c.rising());
-        return;
-    }
-    if c.centre == 0 {
-        step_all_with(lines, target, width, height, last, c, c.hollow());
-        return;
-    }
-    step_full_all(lines, target, width, height, last, c);
 }
 
 // One step of an image whose rows were loaded, by the products that the kernel needs.
@@ -492,43 +204,15 @@ pub fn step_all(
     height: usize,
     coefficients: Coefficients,
 )
-    requires prepared { Prepared coefficients }
     requires readable { Readable lines.now (length target.old) width height }
     ensures { (source : List ℕ) → length source ≡ width * height → HoldsRows lines.now width height source → target.new ≡ step_of (kernel_of_coefficients coefficients) width height source }
 {
-    let last = last_line(lines, width, height);
-    let c = coefficients;
-    if c.across == c.diagonal {
-        if c.along == c.down {
-            step_round_all(lines, target, width, height, last, c);
-            return;
-        }
-        if c.diagonal == 0 {
-            step_all_with(lines, target, width, height, last, c, c.cross());
-            return;
-        }
-        step_upright_all(lines, target, width, height, last, c);
-        return;
-    }
-    step_leaning_all(lines, target, width, height, last, c);
-}
-
-// One step of an image that the lines have room for.
-fn step_whole(
-    source: &[u16],
-    target: &mut [u16],
-    lines: &mut [u32],
-    width: usize,
-    height: usize,
-    coefficients: Coefficients,
-)
-    requires prepared { Prepared coefficients }
-    requires picture_pair { PicturePair (length source.now) (length target.old) width height }
-    requires width_in_bounds { height * (width + 2) ≤ length lines.old }
-    ensures { target.new ≡ step_of (kernel_of_coefficients coefficients) width height source.now }
-{
-    load_all(source, lines, width, height);
-    step_all(lines, target, width, height, coefficients);
+    let all = AllLines {
+        lines,
+        width,
+        height,
+    };
+    coefficients.make(target, all);
 }
 
 // The room that the lines of an image take.
@@ -539,40 +223,63 @@ pub fn line_room(width: usize, height: usize) -> usize
     height * (width + 2)
 }
 
-// One step of a small image, which is loaded whole.
-fn step_small(
-    source: &[u16],
-    target: &mut [u16],
+// What a step between two images goes by.
+#[derive(Clone, Copy)]
+struct Plan {
+    coefficients: Coefficients,
     width: usize,
     height: usize,
-    coefficients: Coefficients,
-)
-    requires prepared { Prepared coefficients }
-    requires picture_pair { PicturePair (length source.now) (length target.old) width height }
-    requires width_bound { height * (width + 2) ≤ small_lines }
-    ensures { target.new ≡ step_of (kernel_of_coefficients coefficients) width height source.now }
-{
-    let mut lines = blank_small_lines();
-    step_whole(source, target, &mut lines, width, height, coefficients);
+    ghost sides: { PicturePair (width * height) (width * height) width height },
 }
 
-// One step of an image of any size: loaded whole where the lines have room, which is faster than row by row.
-fn step_large(
-    source: &[u16],
-    target: &mut [u16],
-    width: usize,
-    height: usize,
-    coefficients: Coefficients,
-)
-    requires prepared { Prepared coefficients }
-    requires picture_pair { PicturePair (length source.now) (length target.old) width height }
-    ensures { target.new ≡ step_of (kernel_of_coefficients coefficients) width height source.now }
-{
-    let mut lines = blank_lines();
-    if line_room(width, height) <= LINES {
-        step_whole(source, target, &mut lines, width, height, coefficients);
-    } else {
-        step_through(source, target, &mut lines, width, height, coefficients);
+impl Plan {
+    // One step through line buffers, a row at a time.
+    fn step_through(self, source: &[u16], target: &mut [u16], lines: &mut [u32])
+        requires pictures { (length source.now ≡ self.width * self.height) × (length target.old ≡ self.width * self.height) }
+        requires width_in_bounds { 3 * (self.width + 2) ≤ length lines.old }
+        ensures { target.new ≡ step_of (kernel_of_coefficients self.coefficients) self.width self.height source.now }
+    {
+        let width = self.width;
+        let mut window = load_first(source, lines, width);
+        for y in 0..self.height {
+            let row = y * width;
+            let around = load_below(source, lines, window, row, width);
+            step_row(lines, around, target, row, width, self.coefficients);
+            window = down(window);
+        }
+    }
+
+    // One step of an image that the lines have room for.
+    fn step_whole(self, source: &[u16], target: &mut [u16], lines: &mut [u32])
+        requires pictures { (length source.now ≡ self.width * self.height) × (length target.old ≡ self.width * self.height) }
+        requires width_in_bounds { self.height * (self.width + 2) ≤ length lines.old }
+        ensures { target.new ≡ step_of (kernel_of_coefficients self.coefficients) self.width self.height source.now }
+    {
+        load_all(source, lines, self.width, self.height);
+        step_all(lines, target, self.width, self.height, self.coefficients);
+    }
+
+    // One step of a small image, which is loaded whole.
+    fn step_small(self, source: &[u16], target: &mut [u16])
+        requires pictures { (length source.now ≡ self.width * self.height) × (length target.old ≡ self.width * self.height) }
+        requires width_bound { self.height * (self.width + 2) ≤ small_lines }
+        ensures { target.new ≡ step_of (kernel_of_coefficients self.coefficients) self.width self.height source.now }
+    {
+        let mut lines = blank_small_lines();
+        self.step_whole(source, target, &mut lines);
+    }
+
+    // One step of an image of any size: loaded whole where the lines have room, which is faster than row by row.
+    fn step_large(self, source: &[u16], target: &mut [u16])
+        requires { (length source.now ≡ self.width * self.height) × (length target.old ≡ self.width * self.height) }
+        ensures { target.new ≡ step_of (kernel_of_coefficients self.coefficients) self.width self.height source.now }
+    {
+        let mut lines = blank_lines();
+        if line_room(self.width, self.height) <= LINES {
+            self.step_whole(source, target, &mut lines);
+        } else {
+            self.step_through(source, target, &mut lines);
+        }
     }
 }
 
@@ -582,10 +289,14 @@ pub fn step(source: &[u16], target: &mut [u16], width: usize, height: usize, ker
     requires picture_pair { PicturePair (length source.now) (length target.old) width height }
     ensures { target.new ≡ step_of kernel width height source.now }
 {
-    let coefficients = row_core::coefficients_of(kernel);
+    let plan = Plan {
+        coefficients: row_core::coefficients_of(kernel),
+        width,
+        height,
+    };
     if line_room(width, height) <= SMALL_LINES {
-        step_small(source, target, width, height, coefficients);
+        plan.step_small(source, target);
     } else {
-        step_large(source, target, width, height, coefficients);
+        plan.step_large(source, target);
     }
 }

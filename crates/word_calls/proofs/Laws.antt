@@ -1,21 +1,20 @@
 -- A call of the state machine through words. Assumes nothing.
-use mathlib.Core.Path.{◌≡◌, ◌∙◌, ap}
+use mathlib.Core.Path.{◌≡◌, refl, sym, ◌∙◌, ap, ap₂}
 use mathlib.Core.Bool.{true, false}
 use mathlib.Core.List.{List}
 use Prim.Native.Nat.{ℕ}
+use Rattle.limits.specs.declared.ErrorCode.{ErrorCode}
 use Rattle.limits.specs.declared.ErrorCode.TheVariants.{RecordOutOfOrder}
-use Rattle.machine.specs.declared.FreeCount.TheVariants as FreeCount
 use Rattle.machine.specs.declared.Service.{Service}
 use Rattle.machine.specs.Rules.{Rules, current_rules}
-use Rattle.machine.specs.Answers.{answer_number}
+use Rattle.machine.specs.Answers.{Answered, answer_number}
 use Rattle.machine.specs.Calls.{Result, free_count_of}
-use Rattle.service.specs.Called.{called_of}
-use Rattle.service.specs.declared.Called.{Called}
 use Rattle.record_words.specs.Words.{fields_fit, service_of}
 use Rattle.word_calls.specs.Exported.{number_after, words_after, through_words, Leaves, count_words}
+use Rattle.std.specs.Prelude.{Err}
 
 -- ---- the free count through words
-pub count_unfit : (words : List ℕ) → fields_fit current_rules words ≡ false → count_words current_rules words ≡ FreeCount.Refused RecordOutOfOrder
+pub count_unfit : (words : List ℕ) → fields_fit current_rules words ≡ false → count_words current_rules words ≡ Err RecordOutOfOrder
 unfolding count_words
 count_unfit words e = rw e
 
@@ -42,17 +41,30 @@ module _ (call : Service → Result) (words : List ℕ) (old : ℕ) (store lent 
 
   -- where they hold the record r
   module _ (fit : fields_fit current_rules words ≡ true) (r : Service) (held : r ≡ service_of current_rules words) where
-    pub fit_leaves : (called : Called) (code : ℕ) (after : List ℕ) (number : ℕ) → called ≡ called_of (call r)
-        → (code ≡ answer_number called.answer) × ((after ≡ words_after current_rules called.answer called.service words) × (number ≡ number_after called.answer old))
-        → Leaves (through_words current_rules call words old store lent) code after number
+    -- what the call leaves is answered, and its words are written
+    pub fit_leaves : (left : Result) → left ≡ call r → (answer : Answered) → answer ≡ left.answer → (after : List ℕ) → after ≡ words_after current_rules left.answer left.service words
+        → Leaves (through_words current_rules call words old store lent) (answer_number answer) after (number_after answer old)
     unfolding through_words
-    fit_leaves called code after number e h =
-        let is : called ≡ called_of (call (service_of current_rules words)) = rw held at e in
+    fit_leaves left is answer a after w =
+        let made : left ≡ call (service_of current_rules words) = rw held at is in
+        let answered : answer ≡ (call (service_of current_rules words)).answer = a ∙ ap (λ (x : Result). x.answer) made in
         record {
-          code_is = rw fit (h.0 ∙ ap (λ (x : Called). answer_number x.answer) is);
-          words_are = rw fit (h.1.0 ∙ ap (λ (x : Called). words_after current_rules x.answer x.service words) is);
-          number_is = rw fit (h.1.1 ∙ ap (λ (x : Called). number_after x.answer old) is);
+          code_is = rw fit (ap answer_number answered);
+          words_are = rw fit (w ∙ ap (λ (x : Result). words_after current_rules x.answer x.service words) made);
+          number_is = rw fit (ap (λ (x : Answered). number_after x old) answered);
         }
+
+    -- where it is refused, the words stay
+    pub refused_leaves : (answer : Answered) → answer ≡ (call r).answer → (code : ErrorCode) → answer ≡ Err code
+        → Leaves (through_words current_rules call words old store lent) (answer_number answer) words (number_after answer old)
+    refused_leaves answer a code e =
+        fit_leaves (call r) refl answer a words (sym (ap (λ (x : Answered). words_after current_rules x (call r).service words) (sym a ∙ e)))
+
+    -- and where not, its record is handed out
+    pub handed_leaves : (answer : Answered) → answer ≡ (call r).answer → (service : Service) → service ≡ (call r).service → (after : List ℕ) → after ≡ words_after current_rules answer service words
+        → Leaves (through_words current_rules call words old store lent) (answer_number answer) after (number_after answer old)
+    handed_leaves answer a service b after w =
+        fit_leaves (call r) refl answer a after (w ∙ ap₂ (λ (x : Answered) (y : Service). words_after current_rules x y words) a b)
 
     pub fit_store : (after : List ℕ) → after ≡ (call r).store → after ≡ (through_words current_rules call words old store lent).store
     unfolding through_words

@@ -9,19 +9,11 @@ use native.Mathlib.Omega.{arith}
 use borrow.Author.Tests.{eq-eqb, eqb-true}
 use lib.Dec.{eqb}
 use lib.ListN.{length}
-use Rattle.limits.specs.declared.Outcome.{Outcome}
-use Rattle.limits.specs.declared.Outcome.TheVariants as O
 use Rattle.limits.specs.Errors.{first_refusal, ◌otherwise◌, value_or, outcome_number}
 use Rattle.limits.specs.declared.ErrorCode.TheVariants.{RecordOutOfOrder, NoSuchJob, WrongLength}
 use Rattle.kernel.specs.declared.Choice.{Choice}
 use Rattle.covariance.specs.declared.Shape.{Shape}
 use Rattle.machine.specs.declared.Service.{Service}
-use Rattle.machine.specs.declared.Answer.{Answer}
-use Rattle.machine.specs.declared.Answer.TheVariants.{Job, Idle, Refused}
-use Rattle.machine.specs.declared.FreeCount.{FreeCount}
-use Rattle.machine.specs.declared.FreeCount.TheVariants.{Buffers}
-use Rattle.machine.specs.declared.Found.{Found}
-use Rattle.machine.specs.declared.Found.TheVariants.{At, Nothing}
 use Rattle.machine.specs.Rules.{Rules, base_rules, choice_rules, current_rules}
 use Rattle.machine.specs.Slots.{opening}
 use Rattle.machine.specs.Store.{buffer_count, store_length, Workable}
@@ -44,27 +36,31 @@ use Rattle.word_calls.proofs.Held.{Holds, Carried, after_answer}
 use Rattle.word_calls.proofs.Fields.{record_fits}
 use Rattle.word_calls.proofs.Seen.{answer_told, some_job}
 use Rattle.word_calls.proofs.Laws.{count_fit}
+use Rattle.std.specs.Prelude.{Option, Some, None, Ok, Err}
+use Rattle.limits.specs.Errors.{Outcome}
+use Rattle.machine.specs.declared.Answer.TheVariants.{Job, Idle}
+use Rattle.machine.specs.Answers.{Answered, FreeCount}
 
 -- ---- what a call of the state machine leaves as it was: a submit the lent picture, a collect the store
 module _ (rules : Rules) (r : Service) (store lent : List ℕ) where
-  submit_reads : (o : Outcome) (f : Found) (choice : Choice) (shape : Shape) (k w h : ℕ)
+  submit_reads : (o : Outcome) (f : Option ℕ) (choice : Choice) (shape : Shape) (k w h : ℕ)
       → (unless_refused o r store lent (submit_at rules r store choice shape k w h lent f)).lent ≡ lent
-  submit_reads O.Accepted (At i) choice shape k w h = refl
-  submit_reads O.Accepted Nothing choice shape k w h = refl
-  submit_reads (O.Refused code) f choice shape k w h = refl
+  submit_reads (Ok done) (Some i) choice shape k w h = refl
+  submit_reads (Ok done) None choice shape k w h = refl
+  submit_reads (Err code) f choice shape k w h = refl
 
-  tick_reads : (o : Outcome) (f : Found) → (unless_refused o r store [] (tick_at rules r store f)).lent ≡ []
-  tick_reads O.Accepted (At i) = refl
-  tick_reads O.Accepted Nothing = refl
-  tick_reads (O.Refused code) f = refl
+  tick_reads : (o : Outcome) (f : Option ℕ) → (unless_refused o r store [] (tick_at rules r store f)).lent ≡ []
+  tick_reads (Ok done) (Some i) = refl
+  tick_reads (Ok done) None = refl
+  tick_reads (Err code) f = refl
 
-  collect_reads : (o : Outcome) (f : Found) (n : ℕ) → (unless_refused o r store lent (collect_at rules r store n lent f)).store ≡ store
-  collect_reads O.Accepted (At i) n = refl
-  collect_reads O.Accepted Nothing n = refl
-  collect_reads (O.Refused code) f n = refl
+  collect_reads : (o : Outcome) (f : Option ℕ) (n : ℕ) → (unless_refused o r store lent (collect_at rules r store n lent f)).store ≡ store
+  collect_reads (Ok done) (Some i) n = refl
+  collect_reads (Ok done) None n = refl
+  collect_reads (Err code) f n = refl
 
   -- a withdraw reads no pixel and changes none
-  withdraw_reads : (o : Outcome) (f : Found) (n : ℕ) (other : List ℕ)
+  withdraw_reads : (o : Outcome) (f : Option ℕ) (n : ℕ) (other : List ℕ)
       → unless_refused o r store [] (withdraw_at r store n f)
       ≡ record {
         answer = (unless_refused o r other [] (withdraw_at r other n f)).answer;
@@ -72,9 +68,9 @@ module _ (rules : Rules) (r : Service) (store lent : List ℕ) where
         store = store;
         lent = [];
       }
-  withdraw_reads O.Accepted (At i) n other = refl
-  withdraw_reads O.Accepted Nothing n other = refl
-  withdraw_reads (O.Refused code) f n other = refl
+  withdraw_reads (Ok done) (Some i) n other = refl
+  withdraw_reads (Ok done) None n other = refl
+  withdraw_reads (Err code) f n other = refl
 
 -- ---- one exported call
 -- where the words hold a record, the call is made on it
@@ -116,10 +112,10 @@ same_call rules words old store (withdraw n) fit =
 carried : (p : Place) → Invariant p → (c : Call) → Carried p.rules (answer_at p c) p.service (next p c).service
 carried p v c = go (answer_at p c) refl
   where
-    go : (a : Answer) → answer_at p c ≡ a → Carried p.rules a p.service (next p c).service
-    go (Job n) e = record_fits (next p c) (next_invariant p v c)
-    go Idle e = ((answers p v c).1.unchanged (rw e)).0
-    go (Refused code) e = ((answers p v c).1.unchanged (rw e)).0
+    go : (a : Answered) → answer_at p c ≡ a → Carried p.rules a p.service (next p c).service
+    go (Ok (Job n)) e = record_fits (next p c) (next_invariant p v c)
+    go (Ok Idle) e = ((answers p v c).1.unchanged (rw e)).0
+    go (Err code) e = ((answers p v c).1.unchanged (rw e)).0
 
 -- what a caller has at each place: words that hold a record, and the machine's invariant of it, its store and what was seen
 record Sound (k : Kept) : Type 0 where
@@ -182,10 +178,10 @@ module _ (k : Kept) (s : Sound k) where
           }
       go m a f g = rw (f, g, unwritten m.answer a)
         where
-          unwritten : (a : Answer) → accepts a ≡ false → words_after k.rules a m.service k.words ≡ k.words
-          unwritten (Job n) a = absurd (true≢false a)
-          unwritten Idle a = refl
-          unwritten (Refused code) a = refl
+          unwritten : (a : Answered) → accepts a ≡ false → words_after k.rules a m.service k.words ≡ k.words
+          unwritten (Ok (Job n)) a = absurd (true≢false a)
+          unwritten (Ok Idle) a = refl
+          unwritten (Err code) a = refl
 
   code_at : (c : ExportedCall) → (exported_at k c).code ≡ answer_number (answer_at p c.call)
   code_at c = ap (λ (e : Exported). e.code) (at c)
@@ -198,7 +194,7 @@ module _ (k : Kept) (s : Sound k) where
       ≡ record { code = (exported_at k c).code; words = k.words; number = c.number; store = k.store; lent = lent_to c.call }
   refused_at c some = rw (code_at c) (go (answer_at p c.call) refl)
     where
-      go : (a : Answer) → answer_at p c.call ≡ a
+      go : (a : Answered) → answer_at p c.call ≡ a
           → exported_at k c
           ≡ record {
             code = answer_number (answer_at p c.call);
@@ -207,18 +203,18 @@ module _ (k : Kept) (s : Sound k) where
             store = k.store;
             lent = lent_to c.call;
           }
-      go (Job n) e = absurd (some (code_at c ∙ ap answer_number e))
-      go Idle e = absurd (some (code_at c ∙ ap answer_number e))
-      go (Refused code) e = kept_by c (ap accepts e) ∙ rw e
+      go (Ok (Job n)) e = absurd (some (code_at c ∙ ap answer_number e))
+      go (Ok Idle) e = absurd (some (code_at c ∙ ap answer_number e))
+      go (Err code) e = kept_by c (ap accepts e) ∙ rw e
 
   idle_at : (c : ExportedCall) → (exported_at k c).code ≡ 0 → (exported_at k c).number ≡ 0
       → exported_at k c ≡ record { code = 0; words = k.words; number = 0; store = k.store; lent = lent_to c.call }
   unfolding answer_seen
   idle_at c z n =
-      let e : answer_at p c.call ≡ Idle = sym (seen c) ∙ rw (z, n) in
+      let e : answer_at p c.call ≡ Ok Idle = sym (seen c) ∙ rw (z, n) in
       kept_by c (ap accepts e) ∙ rw e
 
-  counted : count_words k.rules k.words ≡ Buffers (buffer_count k.rules - k.rules.buffers_per_slot * held_count k.history)
+  counted : count_words k.rules k.words ≡ Ok (buffer_count k.rules - k.rules.buffers_per_slot * held_count k.history)
   counted = count_fit k.rules k.words s.fit p.service refl ∙ (at_place p s.invariant).free_buffers_are
 
 -- ---- the exported change-over
@@ -291,19 +287,19 @@ module _ (words store : List ℕ) (history : List Event) where
     abbrev new : Kept
     new = record { rules = choice_rules; words = with_service current_rules becomes lent; store = store; history = history }
 
-    accepted : change_checks base_rules was.service ≡ O.Accepted
+    accepted : change_checks base_rules was.service ≡ Ok tt
     accepted = change_is was s.invariant
 
-    next_invariant_on : Invariant (changed_place O.Accepted was)
+    next_invariant_on : Invariant (changed_place (Ok tt) was)
     next_invariant_on = subst (λ (o : Outcome). Invariant (changed_place o was)) accepted (change_keeps was s.invariant)
 
     fits : Fits current_rules becomes
-    fits = record_fits (changed_place O.Accepted was) next_invariant_on
+    fits = record_fits (changed_place (Ok tt) was) next_invariant_on
 
     long : length lent ≡ word_count current_rules
     long = eqb-true (length lent) (word_count current_rules) enough
 
-    checks : change_word_checks words (length lent) ≡ O.Accepted
+    checks : change_word_checks words (length lent) ≡ Ok tt
     checks = checked old s lent ∙ rw enough
 
     kept_is : kept_onward old (changes lent) ≡ new
@@ -311,7 +307,7 @@ module _ (words store : List ℕ) (history : List Event) where
         ap (λ (code : ℕ). kept_changed code old lent) (ap outcome_number checks)
         ∙ ap (λ (o : Outcome). record { rules = choice_rules; words = changed_unless o words lent; store = store; history = history }) checks
 
-    place_is : place_seen new ≡ changed_place O.Accepted was
+    place_is : place_seen new ≡ changed_place (Ok tt) was
     place_is = rw (read_back current_rules becomes lent long fits)
 
     taken : Changed old lent

@@ -8,7 +8,6 @@ use lib.Dec.{eqb}
 use lib.ListN.{length}
 use Rattle.machine.specs.declared.Slot.{Slot}
 use Rattle.machine.specs.declared.Service.{Service}
-use Rattle.machine.specs.declared.Found.TheVariants.{At, Nothing}
 use Rattle.machine.specs.Rules.{current_rules}
 use Rattle.machine.specs.Slots.{slot_count, slot_at}
 use Rattle.machine.specs.Store.{store_length, put, buffer_after, steps_done}
@@ -17,42 +16,44 @@ use Rattle.machine.specs.Calls.{Result, tick_at, tick_of, served_place, next_ima
 use Rattle.machine.proofs.Rules.{current_workable}
 use Rattle.machine.proofs.Orderly.{left_filled, filled_slot, served_found}
 use Rattle.buffers.specs.Places.{Ready}
-use Rattle.service.specs.Called.{called_of}
 use Rattle.service.proofs.Laws.{out_of_order, usable_parts, tick_unusable, tick_found}
 use Rattle.record_words.specs.Words.{fields_fit, slot_of, service_of, with_turn}
 use Rattle.record_words.proofs.Fields.{held_slot}
 use Rattle.record_words.proofs.Turns.{turn_written}
-use Rattle.word_calls.specs.Exported.{Leaves, tick_words}
+use Rattle.word_calls.specs.Exported.{Leaves, tick_words, number_after, words_after}
 use Rattle.word_calls.proofs.Laws.{fit_leaves, fit_store}
+use Rattle.limits.specs.declared.ErrorCode.TheVariants.{RecordOutOfOrder}
+use Rattle.machine.specs.declared.Answer.TheVariants.{Job, Idle}
+use Rattle.machine.specs.Answers.{Answered, answer_number}
+use Rattle.std.specs.Prelude.{Some, None, Ok, Err}
 
-module _ (words : List ℕ) (old : ℕ) (store : List ℕ) (fit : fields_fit current_rules words ≡ true) where
+module _ (words store : List ℕ) (fit : fields_fit current_rules words ≡ true) where
   abbrev held : Service
   held = service_of current_rules words
 
   abbrev call : Service → Result
   call r = tick_of current_rules r store
 
-  -- what a tick leaves
-  abbrev Left : ℕ → List ℕ → ℕ → List ℕ → Type 0
-  Left code after number stored =
-      Leaves (tick_words current_rules words old store) code after number × (stored ≡ (tick_words current_rules words old store).store)
+  -- what a tick answers and leaves
+  abbrev Left : Answered → List ℕ → List ℕ → Type 0
+  Left answer after stored =
+      (lent : ℕ) → Leaves (tick_words current_rules words lent store) (answer_number answer) after (number_after answer lent) × (stored ≡ (tick_words current_rules words lent store).store)
 
-  pub tick_refused : (in_order current_rules held && eqb (length store) store_length) ≡ false → Left 2 words old store
-  tick_refused bad =
-      let is = tick_unusable held store bad in (
-        fit_leaves call words old store [] fit held refl (called_of (out_of_order held store [])) 2 words old (ap called_of (sym is)) (refl, (refl, refl)),
-        fit_store call words old store [] fit held refl store (sym (ap (λ (x : Result). x.store) is)),
-      )
+  left_by : (left : Result) → left ≡ call held → (answer : Answered) → answer ≡ left.answer → (after : List ℕ) → after ≡ words_after current_rules left.answer left.service words
+      → (stored : List ℕ) → stored ≡ left.store → Left answer after stored
+  left_by left is answer a after w stored b lent = (
+    fit_leaves call words lent store [] fit held refl left is answer a after w,
+    fit_store call words lent store [] fit held refl stored (b ∙ ap (λ (x : Result). x.store) is),
+  )
+
+  pub tick_refused : (in_order current_rules held && eqb (length store) store_length) ≡ false → Left (Err RecordOutOfOrder) words store
+  tick_refused bad = left_by (out_of_order held store []) (sym (tick_unusable held store bad)) (Err RecordOutOfOrder) refl words refl store refl
 
   module _ (good : (in_order current_rules held && eqb (length store) store_length) ≡ true) where
-    pub tick_idle : served_place current_rules held ≡ Nothing → Left 0 words 0 store
-    tick_idle e =
-        let is = tick_found held store good Nothing e in (
-          fit_leaves call words old store [] fit held refl (called_of (tick_at current_rules held store Nothing)) 0 words 0 (ap called_of (sym is)) (refl, (refl, refl)),
-          fit_store call words old store [] fit held refl store (sym (ap (λ (x : Result). x.store) is)),
-        )
+    pub tick_idle : served_place current_rules held ≡ None → Left (Ok Idle) words store
+    tick_idle e = left_by (tick_at current_rules held store None) (sym (tick_found held store good None e)) (Ok Idle) refl words refl store refl
 
-    module _ (i : ℕ) (found : served_place current_rules held ≡ At i) where
+    module _ (i : ℕ) (found : served_place current_rules held ≡ Some i) where
       pub served_at : (i < slot_count) × (0 < (slot_at held i).left)
       served_at = served_found current_rules current_workable held i found
 
@@ -76,10 +77,9 @@ module _ (words : List ℕ) (old : ℕ) (store : List ℕ) (fit : fields_fit cur
             )
 
         pub tick_served : (after stored : List ℕ) → after ≡ with_turn current_rules i (s.left - 1) words
-            → stored ≡ put (buffer_after current_rules i (steps_done s + 1)) (next_image current_rules store i s) store → Left 0 after s.number stored
+            → stored ≡ put (buffer_after current_rules i (steps_done s + 1)) (next_image current_rules store i s) store → Left (Ok (Job s.number)) after stored
         tick_served after stored a b =
-            let is = tick_found held store good (At i) found in
-            let w = rw same at (a ∙ sym (turn_written words fit i (s.left - 1) served_at.0 held refl)) in (
-              fit_leaves call words old store [] fit held refl (called_of (tick_at current_rules held store (At i))) 0 after s.number (ap called_of (sym is)) (refl, (w, ap (λ (x : Slot). x.number) same)),
-              fit_store call words old store [] fit held refl stored ((rw same at b) ∙ sym (ap (λ (x : Result). x.store) is)),
-            )
+            left_by (tick_at current_rules held store (Some i)) (sym (tick_found held store good (Some i) found))
+            (Ok (Job s.number)) (ap (λ (x : Slot). Ok (Job x.number)) same)
+            after (rw same at (a ∙ sym (turn_written words fit i (s.left - 1) served_at.0 held refl)))
+            stored (rw same at b)

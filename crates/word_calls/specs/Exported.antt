@@ -1,18 +1,12 @@
 -- What an exported call leaves behind: the code that it returns, the words, and the number that it writes. The words are decoded,
 -- the state machine's call is made, and its record is encoded again. The calls take the rules, which give the words their layout: the
 -- exported calls of this library are those by `current_rules`, the earlier release's those by `base_rules`. Definitions only.
-use Rattle.std.specs.Prelude.{◌≡◌, Bool, true, false, cond, ◌&&◌, List, [], ◌∷◌, ℕ, eqb, length}
+use Rattle.std.specs.Prelude.{◌≡◌, Bool, true, false, cond, ◌&&◌, List, [], ◌∷◌, ℕ, eqb, length, Ok, Err}
 use Rattle.kernel.specs.declared.Choice.{Choice}
 use Rattle.covariance.specs.declared.Shape.{Shape}
 use Rattle.limits.specs.Errors.{number_of, outcome_number, ◌otherwise◌, first_refusal}
-use Rattle.limits.specs.declared.Outcome.{Outcome}
-use Rattle.limits.specs.declared.Outcome.TheVariants as O
 use Rattle.limits.specs.declared.ErrorCode.TheVariants.{RecordOutOfOrder, WrongLength}
 use Rattle.machine.specs.declared.Service.{Service}
-use Rattle.machine.specs.declared.Answer.{Answer}
-use Rattle.machine.specs.declared.Answer.TheVariants.{Job, Idle, Refused}
-use Rattle.machine.specs.declared.FreeCount.{FreeCount}
-use Rattle.machine.specs.declared.FreeCount.TheVariants as F
 use Rattle.machine.specs.Answers.{answer_number}
 use Rattle.machine.specs.Rules.{Rules, base_rules, current_rules}
 use Rattle.machine.specs.Slots.{opening}
@@ -20,18 +14,21 @@ use Rattle.machine.specs.Order.{in_order}
 use Rattle.machine.specs.Change.{changed_over}
 use Rattle.machine.specs.Calls.{Result, submit_of, tick_of, collect_of, withdraw_of, free_count_of}
 use Rattle.record_words.specs.Words.{word_count, fields_fit, service_of, with_service}
+use Rattle.limits.specs.Errors.{Outcome}
+use Rattle.machine.specs.declared.Answer.TheVariants.{Job, Idle}
+use Rattle.machine.specs.Answers.{Answered, FreeCount}
 
 -- the job number, 0 for idle; a refusal leaves what stood there
-abbrev pub number_after : Answer → ℕ → ℕ
-number_after (Job n) old = n
-number_after Idle old = 0
-number_after (Refused code) old = old
+abbrev pub number_after : Answered → ℕ → ℕ
+number_after (Ok (Job n)) old = n
+number_after (Ok Idle) old = 0
+number_after (Err code) old = old
 
 -- the words, written only where a job was answered
-abbrev pub words_after : Rules → Answer → Service → List ℕ → List ℕ
-words_after rules (Job n) r words = with_service rules r words
-words_after rules Idle r words = words
-words_after rules (Refused code) r words = words
+abbrev pub words_after : Rules → Answered → Service → List ℕ → List ℕ
+words_after rules (Ok (Job n)) r words = with_service rules r words
+words_after rules (Ok Idle) r words = words
+words_after rules (Err code) r words = words
 
 pub record Exported : Type 0 where
   pub code : ℕ
@@ -90,7 +87,7 @@ opening_words rules words = cond (eqb (length words) (word_count rules)) (with_s
 -- ---- the free count
 abbrev pub count_if_fit : Bool → FreeCount → FreeCount
 count_if_fit true count = count
-count_if_fit false count = F.Refused RecordOutOfOrder
+count_if_fit false count = Err RecordOutOfOrder
 
 unfoldable pub count_words : Rules → List ℕ → FreeCount
 count_words rules words = count_if_fit (fields_fit rules words) (free_count_of rules (service_of rules words))
@@ -109,17 +106,8 @@ change_code old words = outcome_number (change_word_checks old (length words))
 
 -- the new words, and a refusal leaves what stood there
 abbrev pub changed_unless : Outcome → List ℕ → List ℕ → List ℕ
-changed_unless O.Accepted old words = with_service current_rules (changed_over (service_of base_rules old)) words
-changed_unless (O.Refused code) old words = words
+changed_unless (Ok done) old words = with_service current_rules (changed_over (service_of base_rules old)) words
+changed_unless (Err code) old words = words
 
 abbrev pub change_words : List ℕ → List ℕ → List ℕ
 change_words old words = changed_unless (change_word_checks old (length words)) old words
-
--- what the change-over of a record answered, handed out to words of some number
-abbrev pub changed_code : Outcome → List ℕ → ℕ
-changed_code O.Accepted words = cond (eqb (length words) (word_count current_rules)) 0 (number_of WrongLength)
-changed_code (O.Refused code) words = number_of code
-
-abbrev pub changed_words : Outcome → Service → List ℕ → List ℕ
-changed_words O.Accepted r words = cond (eqb (length words) (word_count current_rules)) (with_service current_rules r words) words
-changed_words (O.Refused code) r words = words

@@ -1,13 +1,10 @@
 -- Demand 3 of lists of exported calls, as one claim: from the exported opening on, by the earlier release's words or this library's, with calls
 -- in any order, each lent a number of its own, and the exported change-over at any place; and with all words of the claim taken from what
 -- the caller handed in, was returned and found written. Definitions only; `proofs/Lists` shows it of every list.
-use Rattle.std.specs.Prelude.{◌≡◌, true, not, cond, List, [], ◌∷◌, ◌++◌, ℕ, zero, suc, ◌-◌, ◌*◌, eqb, length}
+use Rattle.std.specs.Prelude.{◌≡◌, true, not, cond, List, [], ◌∷◌, ◌++◌, ℕ, zero, suc, ◌-◌, ◌*◌, eqb, length, Ok, Err}
 use Rattle.limits.specs.Errors.{value_or, outcome_number, ◌otherwise◌, first_refusal}
-use Rattle.limits.specs.declared.Outcome.{Outcome}
 use Rattle.limits.specs.declared.ErrorCode.{ErrorCode}
 use Rattle.limits.specs.declared.ErrorCode.TheVariants.{TextIsNoJob, RecordOutOfOrder, VarianceOutOfRange, NotADirection, StepsOutOfRange, SideOutOfRange, NoSuchJob, StepsAreLeft, WrongLength, TooManyPixels, NoKernel, NoFreeBuffers, NumbersUsedUp, CannotGoBack}
-use Rattle.machine.specs.declared.Answer.{Answer}
-use Rattle.machine.specs.declared.Answer.TheVariants.{Job, Idle, Refused}
 use Rattle.machine.specs.Answers.{answer_number, count_number, count_values}
 use Rattle.machine.specs.Rules.{Rules, with_choice, current_rules}
 use Rattle.machine.specs.Store.{buffer_count, store_length}
@@ -16,6 +13,9 @@ use Rattle.machine.specs.History.{Event, Place, Entry, calling, changing, opened
 use Rattle.machine.specs.Demand.{answer_at, lent_after, lent_to, AtPlace, Opening}
 use Rattle.record_words.specs.Words.{word_count, fields_fit, service_of}
 use Rattle.word_calls.specs.Exported.{Exported, number_after, opening_code, opening_words, submit_words, tick_words, collect_words, withdraw_words, count_words, change_code, change_words}
+use Rattle.limits.specs.Errors.{Outcome}
+use Rattle.machine.specs.declared.Answer.TheVariants.{Job, Idle}
+use Rattle.machine.specs.Answers.{Answered}
 
 -- ---- one call
 -- a call, and what the number that is lent to it holds before: a fresh one for each call, or not
@@ -55,8 +55,8 @@ error_numbered code =
     (cond (eqb code 13) NumbersUsedUp CannotGoBack))))))))))))
 
 -- the answer that a returned code and the number after the call tell: code 0 is a job with that number, or idle where it is 0
-unfoldable pub answer_seen : ℕ → ℕ → Answer
-answer_seen code number = cond (eqb code 0) (cond (eqb number 0) Idle (Job number)) (Refused (error_numbered code))
+unfoldable pub answer_seen : ℕ → ℕ → Answered
+answer_seen code number = cond (eqb code 0) (cond (eqb number 0) (Ok Idle) (Ok (Job number))) (Err (error_numbered code))
 
 -- what the caller keeps from one call to the next, the rules of its words, the words and the store, and what it saw so far, the latest first
 pub record Kept : Type 0 where

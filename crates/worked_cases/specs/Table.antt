@@ -1,19 +1,18 @@
 -- docs/REFERENCE.md, "Pictures worked through", as one table: each row has what goes in and what REFERENCE says comes out, by the
 -- rule of S-2 and, where that differs, by the smallest free number too. Definitions only.
-use Rattle.std.specs.Prelude.{ℕ, ◌*◌, List, [], ◌∷◌, map, replicate, ℤ, pos, neg_ℤ, nat_abs}
+use Rattle.std.specs.Prelude.{ℕ, ◌*◌, List, [], ◌∷◌, map, replicate, ℤ, pos, neg_ℤ, nat_abs, Result, Ok, Err}
 use Prim.Native.String.{String}
-use Rattle.limits.specs.Errors.{outcome_number}
-use Rattle.limits.specs.declared.Outcome.{Outcome}
-use Rattle.limits.specs.declared.Outcome.TheVariants.{Accepted, Refused}
+use Rattle.limits.specs.Errors.{Outcome, outcome_number}
+use Rattle.limits.specs.declared.ErrorCode.{ErrorCode}
 use Rattle.kernel.specs.declared.Choice.{Choice}
 use Rattle.kernel.specs.declared.Choice.TheVariants.{Binomial, Smallest}
 use Rattle.kernel.specs.Molecule.{units_of}
 use Rattle.kernel.specs.Choice.{free_number_by}
-use Rattle.kernel.specs.declared.KernelAnswer.{KernelAnswer}
+use Rattle.kernel.specs.declared.Kernel.{Kernel}
 use Rattle.covariance.specs.declared.Shape.{Shape}
 use Rattle.covariance.specs.declared.Shape.TheVariants.{Matrix}
 use Rattle.covariance.specs.Answer.{shape_kernel_answer}
-use Rattle.smoothing.specs.Runs.{Result, run_of}
+use Rattle.smoothing.specs.Runs.{Result as Run, run_of}
 use Rattle.smoothing.specs.Shown.{shown_of}
 use Rattle.job_printer.specs.Text.{bytes}
 use Rattle.job_text.specs.Answer.{answer_text}
@@ -171,18 +170,26 @@ table =
     ∷ []
 
 abbrev pub free_of : Outcome → ℤ → ℕ
-free_of Accepted f = nat_abs f
-free_of (Refused code) f = 0
+free_of (Ok done) f = nat_abs f
+free_of (Err code) f = 0
 
 abbrev pub shape_of : Case → Shape
 shape_of c = Matrix c.xx c.xy c.yy
 
 -- what the calls are promised to answer: the kernel of the shape, the run between the two pictures, and what its reader is shown
-abbrev pub kernel_for : Case → KernelAnswer
+abbrev pub kernel_for : Case → Result Kernel ErrorCode
 kernel_for c = shape_kernel_answer c.choice (shape_of c) c.steps
 
-abbrev pub run_for : Case → Result
+abbrev pub run_for : Case → Run
 run_for c = run_of c.choice (shape_of c) c.steps c.width c.height c.pixels (nines c.width c.height)
+
+abbrev pub sum_in : Result Kernel ErrorCode → ℕ
+sum_in (Ok kernel) = kernel.sum
+sum_in (Err code) = 0
+
+abbrev pub weights_in : Result Kernel ErrorCode → List ℕ
+weights_in (Ok kernel) = kernel.weights
+weights_in (Err code) = replicate 9 0
 
 -- the row with what the definitions give for its input
 unfoldable pub computed : Case → Case
@@ -198,8 +205,8 @@ computed c =
       pixels = c.pixels;
       answer = outcome_number (run_for c).outcome;
       free = free_of (run_for c).outcome (free_number_by c.choice c.xx c.xy c.yy (units_of c.steps));
-      sum = (kernel_for c).kernel.sum;
-      weights = (kernel_for c).kernel.weights;
+      sum = sum_in (kernel_for c);
+      weights = weights_in (kernel_for c);
       first = (run_for c).first;
       second = (run_for c).second;
       shown = shown_of (shape_of c) c.steps c.width c.height (run_for c).first (run_for c).second;

@@ -33,7 +33,6 @@ step_all-requires c =
     let holds : HoldsRows lines a.width a.height source = rw (add-sub_cancel_left a.from n) at c.load_all.ensures in
     let pixels : AllPixels source = part_pixels a.from n a.store.now (λ j. omega (arith, c.slice_known-1.given j)) in
     record {
-      prepared = c.requires.prepared;
       readable = record {
         wide = p.wide;
         high = p.high;

@@ -1,35 +1,22 @@
--- `differences::directional_difference` meets its contract: the direction is looked at first, then it answers what the other checks
--- come to, and writes only where none failed. Assumes nothing.
-use mathlib.Core.Path.{◌≡◌, refl, sym, ◌∙◌}
-use mathlib.Core.Bool.{true}
+-- `differences::directional_difference` meets its contract: where no check failed, every place lies inside the picture, and the
+-- entries at all places are the directional differences. Assumes nothing.
+use mathlib.Core.Path.{sym, ◌∙◌}
+use native.Mathlib.Omega.{arith}
 use lib.ListN.{length}
-use borrow.Author.Tests.{not-true, not-false}
-use Rattle.covariance.specs.Shapes.{direction_in_range}
+use lib.Ieee.{nan}
+use Rattle.std.proofs.Common.{rules}
 use Rattle.differences.proofs.Checks.{passed}
+use Rattle.differences.proofs.Walk.{area, inside_each, directional_filled}
 use Rattle.differences.proofs.directional_difference.Goals as goal
 
-pub returns-then-not-direction_in_range : goal.returns-then-not-direction_in_range
-returns-then-not-direction_in_range c =
-    record {
-      answer = rw (sym c.direction_in_range.ensures ∙ not-true c.direction_in_range.result c.if-not-direction_in_range.true-raw);
-      entries = refl;
-    }
-
-pub write_directional-requires : goal.write_directional-requires
-write_directional-requires c =
+pub fill_places-requires : goal.fill_places-requires
+fill_places-requires c =
     let a = c.args in
-    passed (length a.pixels.now) (length a.res.now) a.width a.height (sym c.checked.ensures ∙ c.in-Accepted.is)
+    let f = passed (length a.pixels.now) (length a.res.now) a.width a.height (sym c.checked.ensures ∙ c.in_ok-checked.was) in
+    record { wide = (f.wide, f.narrow); small = omega (arith, area f, f.result); callable = λ at l. let h = inside_each f at l in search rules }
 
-pub returns-in-Accepted : goal.returns-in-Accepted
-returns-in-Accepted c =
-    record {
-      answer = rw ((let it-accepted : direction_in_range c.args.direction ≡ true = sym c.direction_in_range.ensures ∙ not-false c.direction_in_range.result c.if-not-direction_in_range.false-raw in it-accepted)) (sym c.in-Accepted.is ∙ c.checked.ensures);
-      entries = c.write_directional.ensures;
-    }
-
-pub returns-in-Refused : goal.returns-in-Refused
-returns-in-Refused c =
-    record {
-      answer = rw ((let it-accepted : direction_in_range c.args.direction ≡ true = sym c.direction_in_range.ensures ∙ not-false c.direction_in_range.result c.if-not-direction_in_range.false-raw in it-accepted)) (sym c.in-Refused.is ∙ c.checked.ensures);
-      entries = refl;
-    }
+pub returns-clause-entries : goal.returns-clause-entries
+returns-clause-entries c =
+    let a = c.args in
+    let f = passed (length a.pixels.now) (length a.res.now) a.width a.height (sym c.checked.ensures ∙ c.in_ok-checked.was) in
+    directional_filled f a.direction a.pixels.now (search rules) (λ i l. let h = c.fill_places.ensures i l nan in search rules)

@@ -1,25 +1,22 @@
--- `differences::undivided_difference` meets its contract: it answers what the checks come to, and writes only where none failed.
--- Assumes nothing.
-use mathlib.Core.Path.{refl, sym, ◌∙◌}
+-- `differences::undivided_difference` meets its contract: where no check failed, every place lies inside the picture, and the
+-- entries at all places are the differences. Assumes nothing.
+use mathlib.Core.Path.{sym, ◌∙◌}
+use native.Mathlib.Omega.{arith}
 use lib.ListN.{length}
+use lib.IntN.{pos}
+use Rattle.std.proofs.Common.{rules}
 use Rattle.differences.proofs.Checks.{passed}
+use Rattle.differences.proofs.Walk.{area, inside_each, differences_filled}
 use Rattle.differences.proofs.undivided_difference.Goals as goal
 
-pub write_differences-requires : goal.write_differences-requires
-write_differences-requires c =
+pub fill_places-requires : goal.fill_places-requires
+fill_places-requires c =
     let a = c.args in
-    passed (length a.pixels.now) (length a.res.now) a.width a.height (sym c.checked.ensures ∙ c.in-Accepted.is)
+    let f = passed (length a.pixels.now) (length a.res.now) a.width a.height (sym c.checked.ensures ∙ c.in_ok-checked.was) in
+    record { wide = (f.wide, f.narrow); small = omega (arith, area f, f.result); callable = λ at l. let h = inside_each f at l in search rules }
 
-pub returns-in-Accepted : goal.returns-in-Accepted
-returns-in-Accepted c =
-    record {
-      answer = sym c.in-Accepted.is ∙ c.checked.ensures;
-      entries = c.write_differences.ensures;
-    }
-
-pub returns-in-Refused : goal.returns-in-Refused
-returns-in-Refused c =
-    record {
-      answer = sym c.in-Refused.is ∙ c.checked.ensures;
-      entries = refl;
-    }
+pub returns-clause-entries : goal.returns-clause-entries
+returns-clause-entries c =
+    let a = c.args in
+    let f = passed (length a.pixels.now) (length a.res.now) a.width a.height (sym c.checked.ensures ∙ c.in_ok-checked.was) in
+    differences_filled f a.which a.pixels.now (search rules) (λ i l. let h = c.fill_places.ensures i l (pos 0) in search rules)

@@ -1,8 +1,7 @@
--- `in_place::steps` meets its contract. The loop's invariant: after n turns the image holds step n, and the lines keep their lengths. The measure is what
--- is left of the turns. Assumes nothing.
+-- `in_place::steps` meets its contract. The loop's invariant: after n turns the image holds step n, and the lines keep their lengths. Assumes nothing.
 use mathlib.Core.Path.{◌≡◌}
 use mathlib.Core.List.{List}
-use Prim.Native.Nat.{ℕ, ◌-◌, ◌≤◌}
+use Prim.Native.Nat.{ℕ, ◌≤◌}
 use lib.ListN.{length}
 use Rattle.limits.specs.Limits.{longest_side}
 use Rattle.kernel.specs.declared.Kernel.{Kernel}
@@ -19,8 +18,4 @@ pub record Stepped (kernel : Kernel) (w h count : ℕ) (start picture even odd :
 
 abbrev pub invariant-loop : goal.invariant-loop
 invariant-loop l =
-    Stepped (kernel_of_coefficients l.coefficients) l.width l.height l.count l.initial.picture l.picture l.even l.odd l.counter
-
-abbrev pub decreases-loop : goal.decreases-loop
-decreases-loop l =
-    l.count - l.counter
+    Stepped (kernel_of_coefficients l.plan.coefficients) l.plan.width l.plan.height l.count l.initial.picture l.picture l.even l.odd l.counter

@@ -1,71 +1,52 @@
 -- `job_parser::read_job` meets its contract: where a part of the text is missing, or something follows, it is no job.
 -- Assumes nothing.
-use mathlib.Core.Path.{sym, ◌∙◌}
-use native.Mathlib.Nat.{le_trans}
+use mathlib.Core.Path.{◌≡◌, sym, ◌∙◌}
+use mathlib.Core.List.{◌++◌}
 use native.Mathlib.Omega.{arith}
-use Rattle.job_parser.proofs.Parsing.{header_long}
-use Rattle.job_parser.proofs.Bounds.{at_longest}
-use Rattle.job_parser.proofs.Jobs.{header_came, too_long, without_header, without_rows, ended, followed}
+use borrow.Author.Tests.{eqb-true, eqb-false}
+use lib.ListN.{length, drop}
+use Rattle.job_parser.proofs.Jobs.{filled, too_long, without_header, too_large, without_rows, ended, followed}
 use Rattle.job_parser.proofs.read_job.Goals as goal
 
 pub returns-then-longest-text : goal.returns-then-longest-text
 returns-then-longest-text c =
-    let a = too_long c.args.format c.args.text.now c.args.pixels.now c.args.pixels.now (rw c.longest.ensures at c.if-longest-text.true) in
-    record {
-      value = a.is;
-      pixels_after = a.stored;
-    }
+    let a = c.args in
+    let it = too_long a.format a.text.now a.pixels.now a.pixels.now (rw c.longest.ensures at c.if-longest-text.true) in
+    record { value = it.value; pixels_after = it.pixels_after }
 
-pub returns-in_default : goal.returns-in_default
-returns-in_default c =
-    let a = without_header c.args.format c.args.text.now c.args.pixels.now c.args.pixels.now (rw c.longest.ensures at c.if-longest-text.false) (sym c.read_header.ensures ∙ c.in_default.is) in
-    record {
-      value = a.is;
-      pixels_after = a.stored;
-    }
+pub returns-in_err-header : goal.returns-in_err-header
+returns-in_err-header c =
+    let a = c.args in
+    let it = without_header a.format a.text.now a.pixels.now a.pixels.now (rw c.longest.ensures at c.if-longest-text.false) c.in_err-header.ensures in
+    rw c.from_residual.ensures (record { value = it.value; pixels_after = it.pixels_after })
 
-pub rows_at-requires : goal.rows_at-requires
-rows_at-requires c =
-    let format = c.args.format in
-    let h = c.in-Value in
-    -- line one was found
-    let came = header_came format c.args.text.now h.header h.next (sym c.read_header.ensures ∙ h.is) in
-    -- the text is no longer than its format allows
-    let short = rw c.longest.ensures at c.if-longest-text.false in
-    record { short = le_trans short (at_longest format); inside = came.inside; room = c.requires; before = omega (arith, came.on, header_long format h.header) }
+pub returns-then-size-gt-MOST_PIXELS : goal.returns-then-size-gt-MOST_PIXELS
+returns-then-size-gt-MOST_PIXELS c =
+    let a = c.args in
+    let h = c.in_ok-header in
+    let it = too_large a.format a.text.now a.pixels.now a.pixels.now (rw c.longest.ensures at c.if-longest-text.false) h.header c.header.new.self.rest.now h.ensures (rw c.area-size.ensures at c.if-size-gt-MOST_PIXELS.true) in
+    record { value = it.value; pixels_after = it.pixels_after }
 
-pub returns-in_default-rows_at : goal.returns-in_default-rows_at
-returns-in_default-rows_at c =
-    let format = c.args.format in
-    let h = c.in-Value in
-    let came = header_came format c.args.text.now h.header h.next (sym c.read_header.ensures ∙ h.is) in
-    let short = rw c.longest.ensures at c.if-longest-text.false in
-    let a = without_rows format c.args.text.now c.args.pixels.now c.rows_at.new.pixels short h.header h.next.at came.reading (sym c.rows_at.ensures.value ∙ c.in_default-rows_at.is) in
-    record {
-      value = a.is;
-      pixels_after = a.stored;
-    }
+pub returns-in_err-rows : goal.returns-in_err-rows
+returns-in_err-rows c =
+    let a = c.args in
+    let h = c.in_ok-header in
+    let it = without_rows a.format a.text.now a.pixels.now (c.rows.new.pixels ++ drop c.area-size.result a.pixels.now) (rw c.longest.ensures at c.if-longest-text.false) h.header c.header.new.self.rest.now h.ensures c.in_err-rows.ensures in
+    rw c.from_residual-in_err-rows.ensures (record { value = it.value; pixels_after = it.pixels_after })
 
-pub returns-then-end-text : goal.returns-then-end-text
-returns-then-end-text c =
-    let format = c.args.format in
-    let h = c.in-Value in
-    let came = header_came format c.args.text.now h.header h.next (sym c.read_header.ensures ∙ h.is) in
-    let short = rw c.longest.ensures at c.if-longest-text.false in
-    let a = ended format c.args.text.now c.args.pixels.now c.rows_at.new.pixels short h.header h.next.at came.reading c.in-After.end (sym c.rows_at.ensures.value ∙ c.in-After.is) c.rows_at.ensures.stored (omega (arith, came.on, came.inside, header_long format h.header)) c.if-end-text.true in
-    record {
-      value = a.is;
-      pixels_after = a.stored;
-    }
+pub returns-then-is_empty : goal.returns-then-is_empty
+returns-then-is_empty c =
+    let a = c.args in
+    let h = c.in_ok-header in
+    let stored = filled a.pixels.now c.rows.new.pixels c.area-size.result (omega arith) c.rows.auto.pixels in
+    let nothing_more : length c.rows.new.self.rest.now ≡ 0 = eqb-true _ 0 (sym c.is_empty.ensures ∙ c.if-is_empty.true) in
+    let it = ended a.format a.text.now a.pixels.now (c.rows.new.pixels ++ drop c.area-size.result a.pixels.now) (rw c.longest.ensures at c.if-longest-text.false) h.header c.header.new.self.rest.now h.ensures c.rows.new.pixels c.rows.new.self.rest.now c.in_ok-rows.ensures nothing_more stored in
+    record { value = it.value; pixels_after = it.pixels_after }
 
-pub returns : goal.returns
-returns c =
-    let format = c.args.format in
-    let h = c.in-Value in
-    let came = header_came format c.args.text.now h.header h.next (sym c.read_header.ensures ∙ h.is) in
-    let short = rw c.longest.ensures at c.if-longest-text.false in
-    let a = followed format c.args.text.now c.args.pixels.now c.rows_at.new.pixels short h.header h.next.at came.reading c.in-After.end (sym c.rows_at.ensures.value ∙ c.in-After.is) c.rows_at.ensures.stored c.if-end-text.false in
-    record {
-      value = a.is;
-      pixels_after = a.stored;
-    }
+pub returns-else-is_empty : goal.returns-else-is_empty
+returns-else-is_empty c =
+    let a = c.args in
+    let h = c.in_ok-header in
+    let more : length c.rows.new.self.rest.now ≡ 0 → ⊥ = eqb-false _ 0 (sym c.is_empty.ensures ∙ c.if-is_empty.false) in
+    let it = followed a.format a.text.now a.pixels.now (c.rows.new.pixels ++ drop c.area-size.result a.pixels.now) (rw c.longest.ensures at c.if-longest-text.false) h.header c.header.new.self.rest.now h.ensures c.rows.new.pixels c.rows.new.self.rest.now c.in_ok-rows.ensures more in
+    record { value = it.value; pixels_after = it.pixels_after }

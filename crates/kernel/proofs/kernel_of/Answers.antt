@@ -1,51 +1,77 @@
 -- `kernel::kernel_of` meets its contract: a free number between the bounds has variances without a sign, and stands between the
--- bounds in naturals. Assumes nothing.
-use mathlib.Core.Path.{◌≡◌, ap, ap₂, ◌∙◌}
+-- bounds in naturals; the five weights are the molecule's, by the sign of xy. Assumes nothing.
+use mathlib.Core.Path.{◌≡◌, sym, ap₂, ◌∙◌}
+use mathlib.Core.Bool.{true, false}
 use native.Mathlib.Omega.{arith}
-use lib.IntN.{pos}
-use mir.Syntax.{w32}
-use mir.ValLaws.{to_z-of_z}
-use Rattle.limits.specs.Limits.{most_steps}
-use Rattle.limits.proofs.Laws.{in_range_lem}
+use Prim.Native.Nat.{ℕ, ◌+◌, ◌-◌, ◌*◌}
+use lib.IntN.{ℤ, pos, nat_abs}
+use lib.Signed.{lt_z}
+use Rattle.std.proofs.Common.{rules}
 use Rattle.kernel.specs.Molecule.{units_of, kernel_with}
-use Rattle.kernel.specs.Answer.{magnitude_of}
+use Rattle.kernel.proofs.Answers.{made_with, five, leans_down, leans_up}
 use Rattle.kernel.proofs.Bounds.{Fitting, fitting}
 use Rattle.kernel.proofs.kernel_of.Goals as goal
-use Rattle.kernel.proofs.kernel_of.Goals.{After-size_and_sign-x, After-size_and_sign-y, After-size_and_sign-z, Start}
 
--- the sizes are those of the three numbers as they came in
-size_x : (c : After-size_and_sign-x) → c.size_and_sign-x.result ≡ magnitude_of c.args.xx
-size_x c = let s = c.before in c.size_and_sign-x.ensures.0 ∙ ap magnitude_of (to_z-of_z w32 s.args.xx s.ranges.xx)
+-- the code's kernel, by the sign of xy
+lean_down : (xx z yy : ℤ) (f k : ℕ) {x c y m g : ℕ} → Fitting xx z yy f (units_of k) → x ≡ nat_abs xx → c ≡ nat_abs z → y ≡ nat_abs yy → m ≡ units_of k → g ≡ f
+    → lt_z z (pos 0) ≡ true → record { weights = five (g - c) (g + c) x y g m; sum = 4 * m } ≡ kernel_with xx z yy (pos f) k
+lean_down xx z yy f k h x c y m g sign =
+    rw (x, c, y, m, g, ← leans_down (nat_abs xx) z (nat_abs yy) f (units_of k) sign)
+    (sym (made_with (nat_abs xx) z (nat_abs yy) f k h.stands) ∙ ap₂ (λ x y. kernel_with x z y (pos f) k) h.x_is h.y_is)
 
-size_z : (c : After-size_and_sign-z) → c.size_and_sign-z.result ≡ magnitude_of c.args.xy
-size_z c = let s = c.before.before in c.size_and_sign-z.ensures.0 ∙ ap magnitude_of (to_z-of_z w32 s.args.xy s.ranges.xy)
+lean_up : (xx z yy : ℤ) (f k : ℕ) {x c y m g : ℕ} → Fitting xx z yy f (units_of k) → x ≡ nat_abs xx → c ≡ nat_abs z → y ≡ nat_abs yy → m ≡ units_of k → g ≡ f
+    → lt_z z (pos 0) ≡ false → record { weights = five (g + c) (g - c) x y g m; sum = 4 * m } ≡ kernel_with xx z yy (pos f) k
+lean_up xx z yy f k h x c y m g sign =
+    rw (x, c, y, m, g, ← leans_up (nat_abs xx) z (nat_abs yy) f (units_of k) sign)
+    (sym (made_with (nat_abs xx) z (nat_abs yy) f k h.stands) ∙ ap₂ (λ x y. kernel_with x z y (pos f) k) h.x_is h.y_is)
 
-size_y : (c : After-size_and_sign-y) → c.size_and_sign-y.result ≡ magnitude_of c.args.yy
-size_y c = let s = c.before.before.before in c.size_and_sign-y.ensures.0 ∙ ap magnitude_of (to_z-of_z w32 s.args.yy s.ranges.yy)
+pub overflow_sub-along : goal.overflow_sub-along
+overflow_sub-along c =
+    let v = c.args.covariance in
+    let x : c.from-xx.result ≡ nat_abs v.xx = search rules in
+    omega (arith, x, c.from-f.ensures, (fitting v.xx v.xy v.yy _ _ c.requires.1).stands.across)
 
-fit : (s : Start) → Fitting s.args.xx s.args.xy s.args.yy s.args.free (units_of s.args.steps)
-fit s = fitting s.args.xx s.args.xy s.args.yy s.args.free (units_of s.args.steps) s.requires.1
+pub overflow_sub-down : goal.overflow_sub-down
+overflow_sub-down c =
+    let v = c.args.covariance in
+    let y : c.from-yy.result ≡ nat_abs v.yy = search rules in
+    omega (arith, y, c.from-f.ensures, (fitting v.xx v.xy v.yy _ _ c.requires.1).stands.down)
 
-pub kernel_with-requires : goal.kernel_with-requires
-kernel_with-requires c =
-    let s = c.before.before.before.before in
-    let b = (fit s).stands in
-    let x = ap (λ m. m.size) (size_x c.before.before.before) in
-    let z = ap (λ m. m.size) (size_z c.before.before) in
-    let y = ap (λ m. m.size) (size_y c.before) in
-    let u = c.units.ensures in
-    let r = in_range_lem 1 most_steps s.args.steps s.requires.0 in
-    record {
-      xx_bound = (c.size_and_sign-x.ensures.1, c.size_and_sign-y.ensures.1, omega (arith, u, r.1));
-      size_le_f = (omega (arith, z, b.leans), omega (arith, x, y, u, b.steps), omega (arith, x, b.across), omega (arith, y, b.down));
-    }
+pub overflow_sub-centre : goal.overflow_sub-centre
+overflow_sub-centre c =
+    let v = c.args.covariance in
+    let x : c.from-xx.result ≡ nat_abs v.xx = search rules in
+    let y : c.from-yy.result ≡ nat_abs v.yy = search rules in
+    omega (arith, x, y, c.from-f.ensures, c.units-m.ensures, (fitting v.xx v.xy v.yy _ _ c.requires.1).stands.steps)
+
+pub overflow_sub-f : goal.overflow_sub-f
+overflow_sub-f c =
+    let v = c.args.covariance in
+    let z : c.from-xy.result ≡ nat_abs v.xy = search rules in
+    omega (arith, z, c.from-f.ensures, (fitting v.xx v.xy v.yy _ _ c.requires.1).stands.leans)
+
+pub overflow_sub-f-2 : goal.overflow_sub-f-2
+overflow_sub-f-2 c =
+    let v = c.args.covariance in
+    let z : c.from-xy.result ≡ nat_abs v.xy = search rules in
+    omega (arith, z, c.from-f.ensures, (fitting v.xx v.xy v.yy _ _ c.requires.1).stands.leans)
+
+pub returns-then-covariance-lt0 : goal.returns-then-covariance-lt0
+returns-then-covariance-lt0 c =
+    let v = c.args.covariance in
+    let x : c.from-xx.result ≡ nat_abs v.xx = search rules in
+    let z : c.from-xy.result ≡ nat_abs v.xy = search rules in
+    let y : c.from-yy.result ≡ nat_abs v.yy = search rules in
+    let sign : lt_z v.xy (pos 0) ≡ true = search rules in
+    c.symmetric.ensures
+    ∙ lean_down v.xx v.xy v.yy c.args.free c.args.steps (fitting v.xx v.xy v.yy _ _ c.requires.1) x z y c.units-m.ensures c.from-f.ensures sign
 
 pub returns : goal.returns
 returns c =
-    let u = c.before in
-    let s = u.before.before.before.before in
-    let a = s.args in
-    let h = fit s in
-    c.kernel_with.ensures a.xy a.steps (size_z u.before.before) u.units.ensures
-    ∙ ap₂ (λ x y. kernel_with x a.xy y (pos a.free) a.steps)
-    (ap (λ m. pos m.size) (size_x u.before.before.before) ∙ h.x_is) (ap (λ m. pos m.size) (size_y u.before) ∙ h.y_is)
+    let v = c.args.covariance in
+    let x : c.from-xx.result ≡ nat_abs v.xx = search rules in
+    let z : c.from-xy.result ≡ nat_abs v.xy = search rules in
+    let y : c.from-yy.result ≡ nat_abs v.yy = search rules in
+    let sign : lt_z v.xy (pos 0) ≡ false = search rules in
+    c.symmetric-2.ensures
+    ∙ lean_up v.xx v.xy v.yy c.args.free c.args.steps (fitting v.xx v.xy v.yy _ _ c.requires.1) x z y c.units-m.ensures c.from-f.ensures sign

@@ -1,57 +1,61 @@
--- `picture_calls::write_kernel` meets its contract: the shape, the steps and the length are checked in this order, and where all
--- pass the answer of the kernel call decides. Assumes nothing.
+-- `picture_calls::write_kernel` meets its contract where the shape is refused, and where the kernel is: then the shape, the steps and
+-- the length passed before. Assumes nothing.
 use mathlib.Core.Path.{◌≡◌, refl, sym, ◌∙◌}
 use mathlib.Core.Bool.{true}
+use mathlib.Core.List.{[], ◌∷◌}
+use Prim.Native.Nat.{ℕ}
+use borrow.Author.Tests.{eq-eqb}
+use borrow.Author.Rules.{rules}
+use lib.Dec.{eqb}
 use lib.ListN.{length}
-use borrow.Author.Tests.{ne_eqb}
+use Rattle.std.specs.Prelude.{Ok, Err}
 use Rattle.limits.specs.Limits.{steps_in_range}
-use Rattle.covariance.proofs.Answers as answers
-use Rattle.limits.proofs.Checks.{failed, passed}
-use Rattle.kernel.specs.Choice.{choice_of}
-use Rattle.picture_calls.specs.Pictures.{kernel_code, kernel_after}
-use Rattle.picture_calls.proofs.Laws.{kernel_refused, kernel_code_lem, kernel_after_lem}
+use Rattle.limits.specs.Errors.{◌otherwise◌}
+use Rattle.limits.specs.declared.ErrorCode.{ErrorCode}
+use Rattle.limits.specs.declared.ErrorCode.TheVariants.{StepsOutOfRange, WrongLength, NoKernel}
+use Rattle.limits.proofs.Checks.{refused_alone}
+use Rattle.kernel.specs.declared.Choice.{Choice}
+use Rattle.kernel.specs.declared.Covariance.{Covariance}
+use Rattle.kernel.specs.Answer.{kernel_answer, kernel_checks}
+use Rattle.kernel.specs.Choice.{kernel_by}
+use Rattle.kernel.specs.Existence.{kernel_exists}
+use Rattle.kernel.specs.Molecule.{units_of}
+use Rattle.covariance.specs.declared.Shape.{Shape}
+use Rattle.covariance.specs.Answer.{covariance_answer}
+use Rattle.covariance.specs.Shapes.{covariance_xx, covariance_xy, covariance_yy}
+use Rattle.covariance.proofs.Answers.{passed, stopped}
+use Rattle.picture_calls.specs.Pictures.{kernel_count, kernel_outcome, kernel_code, kernel_after}
 use Rattle.picture_calls.proofs.write_kernel.Goals as goal
 
-pub returns-then-not-steps_in_range : goal.returns-then-not-steps_in_range
-unfolding kernel_code kernel_after
-returns-then-not-steps_in_range c =
-    let p = answers.passed c.args.shape c.in-Entries.field-0 c.in-Entries.field-1 c.in-Entries.field-2 (sym c.covariance_of.ensures ∙ c.in-Entries.is) in
-    rw (p.variances, p.direction, failed c.steps_in_range.ensures c.if-not-steps_in_range.true-raw)
-    record {
-      value = c.error_number.ensures;
-      words_after = refl;
-    }
+-- a refused shape is refused, whatever is checked after it
+kernel_refused : (shape : Shape) (code : ErrorCode) → covariance_answer shape ≡ Err code → (k n : ℕ) → kernel_outcome shape k n ≡ Err code
+kernel_refused shape code refused k n =
+    stopped shape code
+    ((steps_in_range k otherwise StepsOutOfRange)
+    ∷ (eqb n kernel_count otherwise WrongLength)
+    ∷ (kernel_exists (covariance_xx shape) (covariance_xy shape) (covariance_yy shape) (units_of k) otherwise NoKernel)
+    ∷ [])
+    refused
 
-pub returns-then-words-ne-KERNEL_WORDS : goal.returns-then-words-ne-KERNEL_WORDS
-unfolding kernel_code kernel_after
-returns-then-words-ne-KERNEL_WORDS c =
-    let p = answers.passed c.args.shape c.in-Entries.field-0 c.in-Entries.field-1 c.in-Entries.field-2 (sym c.covariance_of.ensures ∙ c.in-Entries.is) in
-    rw (p.variances, p.direction, (let it-steps_fine : steps_in_range c.args.steps ≡ true = passed c.steps_in_range.ensures c.if-not-steps_in_range.false-raw in it-steps_fine), ne_eqb _ _ c.if-words-ne-KERNEL_WORDS.true)
-    record {
-      value = c.error_number-then-words-ne-KERNEL_WORDS.ensures;
-      words_after = refl;
-    }
+-- where the other checks passed, the kernel's answer decides
+kernel_stopped : (choice : Choice) (shape : Shape) (k n : ℕ) (entries : Covariance) {code : ErrorCode} → covariance_answer shape ≡ Ok entries
+    → steps_in_range k ≡ true → n ≡ kernel_count → kernel_answer choice entries.xx entries.xy entries.yy k ≡ Err code → kernel_outcome shape k n ≡ Err code
+kernel_stopped choice shape k n entries {code} e steps ten r =
+    let p = passed shape entries.xx entries.xy entries.yy e in
+    rw (p.variances, p.direction, steps, eq-eqb n kernel_count ten, p.is_xx, p.is_xy, p.is_yy)
+    (rw steps at (refused_alone (kernel_checks entries.xx entries.xy entries.yy k) (kernel_by choice entries.xx entries.xy entries.yy k) code r))
 
-pub returns-else-words-ne-KERNEL_WORDS : goal.returns-else-words-ne-KERNEL_WORDS
-returns-else-words-ne-KERNEL_WORDS c =
+pub returns-in_err-covariance : goal.returns-in_err-covariance
+unfolding kernel_code kernel_after
+returns-in_err-covariance c =
     let a = c.args in
-    let p = answers.passed c.args.shape c.in-Entries.field-0 c.in-Entries.field-1 c.in-Entries.field-2 (sym c.covariance_of.ensures ∙ c.in-Entries.is) in
-    let steps = (let it-steps_fine : steps_in_range c.args.steps ≡ true = passed c.steps_in_range.ensures c.if-not-steps_in_range.false-raw in it-steps_fine) in
-    let choice = choice_of a.choice in
-    let wrote = c.write_answer.ensures in
-    record {
-      value = wrote.value
-          ∙ rw (c.kernel_of_shape_by.ensures, c.choice_of-named.ensures)
-          (kernel_code_lem a.shape a.steps a.words.now p.variances p.direction steps c.if-words-ne-KERNEL_WORDS.false choice);
-      words_after = wrote.words_after
-          ∙ rw (c.kernel_of_shape_by.ensures, c.choice_of-named.ensures)
-          (kernel_after_lem a.shape a.steps a.words.now p.variances p.direction steps c.if-words-ne-KERNEL_WORDS.false choice);
-    }
+    rw (kernel_refused a.shape _ (sym c.covariance_of.ensures ∙ c.in_err-covariance.was) a.steps (length a.words.now))
+    (record { value = search rules; words_after = refl })
 
-pub returns-in-Refused : goal.returns-in-Refused
+pub returns-in_err-kernel : goal.returns-in_err-kernel
 unfolding kernel_code kernel_after
-returns-in-Refused c =
+returns-in_err-kernel c =
     let a = c.args in
-    rw
-    (kernel_refused a.shape c.in-Refused.code (sym c.covariance_of.ensures ∙ c.in-Refused.is) a.steps (length a.words.now))
-    record { value = c.error_number-in-Refused.ensures; words_after = refl }
+    rw (kernel_stopped c.from.result a.shape a.steps (length a.words.now) c.in_ok-covariance.covariance (sym c.covariance_of.ensures ∙ c.in_ok-covariance.was)
+    (search rules) c.if-words-ne-KERNEL_WORDS.false (sym c.kernel_by.ensures ∙ c.in_err-kernel.was))
+    (record { value = search rules; words_after = refl })

@@ -1,5 +1,5 @@
--- `row_core::pad` meets its contract. The loop's invariant: the first i + 1 values of the line are those of the padded row. The
--- measure is what is left of the row. Assumes nothing.
+-- `row_core::pad` meets its contract. The loop's invariant: the first i + 1 values of the line are those of the padded row. Assumes
+-- nothing.
 use mathlib.Core.Path.{◌≡◌, sym, ap, ◌∙◌}
 use mathlib.Core.List.{List}
 use Prim.Native.Nat.{ℕ, ◌+◌, ◌-◌, min}
@@ -18,21 +18,14 @@ loop-i-init c =
     let a = c.args in
     let n = length a.row.now + 2 in
     let none = filled_none n (padding a.row.now) a.line.now (omega arith) in
-    record {
-      at = omega arith;
-      filled = filled_more n (padding a.row.now) a.line.now 0 none (omega arith) (c.doubled.ensures ∙ sym (padding_at a.row.now 0 0 (omega arith)));
-    }
+    filled_more n (padding a.row.now) a.line.now 0 none (omega arith) (c.doubled.ensures ∙ sym (padding_at a.row.now 0 0 (omega arith)))
 
 pub loop-i-preserved : goal.loop-i-preserved
 loop-i-preserved c =
     let row = c.args.row.now in
     let l = c.loop-i in
-    record {
-      at = omega arith;
-      filled =
-          filled_more (length row + 2) (padding row) l.line (l.i + 1) l.invariant.filled (omega arith)
-          (c.doubled-in-loop-i.ensures ∙ sym (padding_at row (l.i + 1) l.i (omega arith)));
-    }
+    filled_more (length row + 2) (padding row) l.line (l.i + 1) l.invariant (omega arith)
+    (c.doubled-in-loop-i.ensures ∙ sym (padding_at row (l.i + 1) l.i (omega arith)))
 
 pub returns : goal.returns
 unfolding padded_of
@@ -42,5 +35,5 @@ returns c =
     let n = length row in
     let e : l.i ≡ n = omega arith in
     let v = c.doubled-2.result in
-    let last = filled_more (n + 2) (padding row) l.line (n + 1) {v = v} (rw e at l.invariant.filled) (omega arith) (c.doubled-2.ensures ∙ sym (padding_at row (n + 1) (n - 1) (omega arith))) in
+    let last = filled_more (n + 2) (padding row) l.line (n + 1) {v = v} (rw e at l.invariant) (omega arith) (c.doubled-2.ensures ∙ sym (padding_at row (n + 1) (n - 1) (omega arith))) in
     filled_all (n + 2) (padding row) (set l.line (n + 1) v) (n + 1 + 1) last (omega arith)

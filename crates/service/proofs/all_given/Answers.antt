@@ -1,20 +1,20 @@
--- `service::all_given` meets its contract: the loop has made the first i slots (`Filled`); the three last fields are kept. Assumes nothing.
-use mathlib.Core.Path.{refl}
+-- `service::all_given` meets its contract: it makes each slot anew and keeps the three last fields. Assumes nothing.
+use mathlib.Core.Path.{◌≡◌, ap}
 use native.Mathlib.Omega.{arith}
-use Rattle.averaging.proofs.Images.{filled_none, filled_more, filled_all}
-use Rattle.machine.specs.Slots.{slot_count, slot_at}
+use mathlib.Core.List.{List}
+use lib.ListN.{length}
+use Rattle.std.proofs.Common.{rules, tests}
+use Rattle.machine.specs.declared.Slot.{Slot}
+use Rattle.machine.specs.Slots.{slot_count, empty_slot}
+use Rattle.machine.proofs.Mapped.{mapped_by}
 use Rattle.service.specs.Given.{slot_given}
 use Rattle.service.proofs.all_given.Goals as goal
 
-pub loop-i-init : goal.loop-i-init
-loop-i-init c = filled_none slot_count (λ k. slot_given (slot_at c.args.service k)) _ refl
-
-pub loop-i-preserved : goal.loop-i-preserved
-loop-i-preserved c =
-    let l = c.before.before.before in
-    filled_more slot_count (λ k. slot_given (slot_at l.args.service k)) l.loop-i.all l.loop-i.i l.loop-i.invariant (omega arith) c.given.ensures
-
 pub returns : goal.returns
 returns c =
-    let l = c.before in
-    rw (filled_all slot_count (λ k. slot_given (slot_at l.args.service k)) l.loop-i.all l.loop-i.i l.loop-i.invariant (omega arith))
+    let r = c.args.service in
+    let m = c.map.ensures.items in
+    let many : length r.slots ≡ slot_count = search rules in
+    ap (λ (slots : List Slot). record { slots = slots; last = r.last; filled = r.filled; served = r.served })
+    (mapped_by slot_given empty_slot r.slots c.map.result (omega (arith, many, m.long))
+    (λ i h. let w = m.at i empty_slot empty_slot (omega (arith, h, many)) in search (rules, tests)))

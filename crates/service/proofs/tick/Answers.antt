@@ -1,22 +1,23 @@
--- `service::tick` meets its contract: the turn says what the tick answers and changes; the record is made of it. Assumes nothing.
-use Rattle.machine.specs.declared.Answer.TheVariants.{Job, Idle, Refused}
-use Rattle.service.proofs.Laws.{turn_called, turn_within}
+-- `service::tick` meets its contract: a slot with steps left is a filled one. Assumes nothing.
+use Prim.Native.Nat.{◌<◌}
+use borrow.Author.Rules.{rules}
+use Rattle.machine.specs.Rules.{current_rules}
+use Rattle.machine.specs.Slots.{slot_count, slot_at}
+use Rattle.machine.proofs.Orderly.{filled_slot, left_filled}
+use Rattle.service.proofs.Laws.{usable_parts}
 use Rattle.service.proofs.tick.Goals as goal
 
-pub turned-requires : goal.turned-requires
-turned-requires c = turn_within _ _ _ c.take_turn-turn.ensures.value
-
-pub returns-in-Job : goal.returns-in-Job
-returns-in-Job c =
-    let t = c.take_turn-turn in
-    (rw c.turned.ensures (turn_called _ _ t.result t.ensures.value (Job _) c.in-Job.is), t.ensures.store_after)
-
-pub returns-in-Idle : goal.returns-in-Idle
-returns-in-Idle c =
-    let t = c.take_turn-turn in
-    (turn_called _ _ t.result t.ensures.value Idle c.in-Idle.is, t.ensures.store_after)
-
-pub returns-in-Refused : goal.returns-in-Refused
-returns-in-Refused c =
-    let t = c.take_turn-turn in
-    (rw c.refused.ensures (turn_called _ _ t.result t.ensures.value (Refused _) c.in-Refused.is), t.ensures.store_after)
+pub step_slot-requires : goal.step_slot-requires
+step_slot-requires c =
+    let r = c.args.service.now in
+    let place = c.in-Some.place in
+    let w = usable_parts r c.args.store.now (search rules) in
+    let at : place < slot_count = search rules in
+    let left : 0 < (slot_at r place).left = search rules in
+    record {
+      long = w.1;
+      at = at;
+      left = left;
+      last = r.last;
+      filled = filled_slot current_rules r w.0 place at (left_filled current_rules r w.0 place at left);
+    }

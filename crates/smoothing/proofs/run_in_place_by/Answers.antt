@@ -1,26 +1,27 @@
 -- `smoothing::run_in_place_by` meets its contract: where the checks refuse, nothing is written, and else the kernel is one to make steps
 -- with and the picture has w × h pixels. Assumes nothing.
-use mathlib.Core.Path.{ap, ◌∙◌}
+use mathlib.Core.Path.{refl, sym, ◌∙◌}
 use lib.ListN.{length}
-use Rattle.limits.specs.Errors.{held_after}
-use Rattle.covariance.specs.Shapes.{kernel_of_shape_by}
-use Rattle.averaging.specs.Steps.{steps_of}
-use Rattle.smoothing.specs.InPlace.{in_place_outcome, in_place_after}
-use Rattle.smoothing.proofs.Runs.{kernel_sound, step_kernel, same_held}
-use Rattle.kernel.specs.declared.KernelAnswer.{KernelAnswer}
+use borrow.Author.Rules.{rules}
+use Rattle.smoothing.specs.InPlace.{in_place_after}
+use Rattle.smoothing.proofs.Runs.{refused_run, accepted_run, kernel_of_run, step_kernel}
 use Rattle.smoothing.proofs.run_in_place_by.Goals as goal
 
-pub steps_with-requires-clause-step_kernel : goal.steps_with-requires-clause-step_kernel
-steps_with-requires-clause-step_kernel c =
+pub returns-in_err-kernel : goal.returns-in_err-kernel
+unfolding in_place_after
+returns-in_err-kernel c =
     let a = c.args in
-    let n = length a.picture.now in
-    rw c.run_kernel-answer.ensures
-    (step_kernel (kernel_of_shape_by a.choice a.shape a.steps) a.steps (in_place_outcome a.shape a.steps a.width a.height a.picture.now) (kernel_sound a.choice a.shape a.steps a.width a.height n n))
+    rw (refused_run a.choice a.shape a.steps a.width a.height (length a.picture.now) (length a.picture.now) (sym c.run_kernel.ensures ∙ c.in_err-kernel.was))
+    (record { outcome = search rules; picture = refl })
+
+pub steps-requires-clause-step_kernel : goal.steps-requires-clause-step_kernel
+steps-requires-clause-step_kernel c =
+    let a = c.args in
+    step_kernel a.choice a.shape a.steps a.width a.height (length a.picture.now) (length a.picture.now) (sym c.run_kernel.ensures ∙ c.in_ok-kernel.was)
 
 pub returns-clause-picture : goal.returns-clause-picture
 unfolding in_place_after
 returns-clause-picture c =
     let a = c.args in
-    c.steps_with.ensures.picture_after
-    ∙ ap (λ (answer : KernelAnswer). held_after answer.outcome (steps_of answer.kernel a.width a.height a.steps a.picture.now) a.picture.now) c.run_kernel-answer.ensures
-    ∙ same_held (kernel_of_shape_by a.choice a.shape a.steps) a.steps a.width a.height a.picture.now (in_place_outcome a.shape a.steps a.width a.height a.picture.now)
+    let made = sym c.run_kernel.ensures ∙ c.in_ok-kernel.was in
+    rw (accepted_run a.choice a.shape a.steps a.width a.height (length a.picture.now) (length a.picture.now) made, sym (kernel_of_run a.choice a.shape a.steps a.width a.height (length a.picture.now) (length a.picture.now) made)) c.steps.ensures

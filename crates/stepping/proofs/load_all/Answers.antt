@@ -1,7 +1,6 @@
--- `stepping::load_all` meets its contract. The loop's invariant: the rows before row y stand in their lines. The measure is what is
--- left of the rows. Assumes nothing.
+-- `stepping::load_all` meets its contract. The loop's invariant: the rows before row y stand in their lines. Assumes nothing.
 use mathlib.Core.Path.{◌≡◌, ap, ◌∙◌}
-use Prim.Native.Nat.{ℕ, ◌+◌, ◌*◌, ◌≤◌}
+use Prim.Native.Nat.{ℕ, ◌+◌, ◌*◌, ◌≤◌, ◌<◌}
 use native.Mathlib.Omega.{arith}
 use lib.ListN.{length}
 use lib.Seq.{length-paste}
@@ -15,15 +14,12 @@ pub loop-done-preserved : goal.loop-done-preserved
 loop-done-preserved c =
     let a = c.args in
     let l = c.loop-done in
-    let r = c.load_line in
-    let line : l.done * (a.width + 2) + (a.width + 2) ≤ length l.lines = omega (arith, line_inside a.width a.height l.done (omega arith), l.invariant.room, c.requires) in
-    let row = length_part (l.done * a.width) a.width a.source.now (omega (arith, row_inside a.width a.height l.done (omega arith), c.requires.source)) in
+    let low : l.done < a.height = omega arith in
+    let line : l.done * (a.width + 2) + (a.width + 2) ≤ length l.lines = omega (arith, line_inside a.width a.height l.done low, l.invariant.room, c.requires) in
+    let row = length_part (l.done * a.width) a.width a.source.now (omega (arith, row_inside a.width a.height l.done low, c.requires.source)) in
     let n : length (padded_of (part (l.done * a.width) a.width a.source.now)) ≡ a.width + 2 = length_padded _ ∙ ap (λ (m : ℕ). m + 2) row in
-    let e = rw (l.invariant.row, l.invariant.line) at r.ensures in
+    let e = c.load_line.ensures in
     record {
-      within = omega arith;
-      row = omega (arith, l.invariant.row);
-      line = omega (arith, l.invariant.line);
       room = ap length e ∙ length-paste l.lines (l.done * (a.width + 2)) _ (a.width + 2) line (omega (arith, n)) ∙ l.invariant.room;
       held = hold_more a.width l.done a.source.now l.lines line row e l.invariant.held;
     }

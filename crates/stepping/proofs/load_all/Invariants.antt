@@ -1,24 +1,16 @@
--- `stepping::load_all` meets its contract. The loop's invariant: the rows before row y stand in their lines. The measure is what is
--- left of the rows. Assumes nothing.
+-- `stepping::load_all` meets its contract. The loop's invariant: the rows before row y stand in their lines. Assumes nothing.
 use mathlib.Core.Path.{◌≡◌}
 use mathlib.Core.List.{List}
-use Prim.Native.Nat.{ℕ, ◌+◌, ◌-◌, ◌*◌, ◌≤◌, ◌<◌}
+use Prim.Native.Nat.{ℕ, ◌*◌, ◌<◌}
 use lib.ListN.{length}
 use Rattle.row_core.specs.Rows.{padded_of, part}
 use Rattle.stepping.specs.Whole.{line_at}
 use Rattle.stepping.proofs.load_all.Given as goal
 
-pub record Progress (w h : ℕ) (source b₀ b : List ℕ) (i j y : ℕ) : Type 0 where
-  pub within : y ≤ h
-  pub row : i ≡ y * w
-  pub line : j ≡ y * (w + 2)
+pub record Progress (w h : ℕ) (source b₀ b : List ℕ) (y : ℕ) : Type 0 where
   pub room : length b ≡ length b₀
   pub held : (z : ℕ) → z < y → line_at w z b ≡ padded_of (part (z * w) w source)
 
 abbrev pub invariant-loop-done : goal.invariant-loop-done
 invariant-loop-done l =
-    Progress l.width l.height l.source l.initial.lines l.lines l.row l.line l.done
-
-abbrev pub decreases-loop-done : goal.decreases-loop-done
-decreases-loop-done l =
-    l.height - l.done
+    Progress l.width l.height l.source l.initial.lines l.lines l.done

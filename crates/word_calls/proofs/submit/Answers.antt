@@ -1,49 +1,62 @@
--- `word_calls::submit` meets its contract: words that hold no record are refused before the call; the others are decoded, the call is
--- made on their record, and `hand_out` writes what it answered. Assumes nothing.
-use mathlib.Core.Path.{◌≡◌, sym, ◌∙◌}
+-- `word_calls::submit` meets its contract: words that hold no record are refused before the call; else the call is made on their record, and
+-- `hand_out` writes what it answered. Assumes nothing.
+use mathlib.Core.Path.{◌≡◌, ◌∙◌}
 use mathlib.Core.Bool.{true}
-use borrow.Author.Tests.{not-true, not-false}
-use Rattle.machine.specs.declared.Service.{Service}
+use borrow.Author.Rules.{rules}
+use Rattle.std.specs.Prelude.{Err}
+use Rattle.limits.specs.declared.ErrorCode.TheVariants.{RecordOutOfOrder}
 use Rattle.kernel.specs.Choice.{choice_of}
+use Rattle.machine.specs.declared.Service.{Service}
 use Rattle.machine.specs.Rules.{current_rules}
+use Rattle.machine.specs.Answers.{Answered}
 use Rattle.machine.specs.Calls.{Result, submit_of}
-use Rattle.record_words.specs.Words.{fields_fit}
+use Rattle.record_words.specs.Words.{fields_fit, service_of}
 use Rattle.record_words.proofs.Laws.{fit_length}
-use Rattle.word_calls.proofs.Laws.{unfit_leaves, fit_leaves, unfit_store, fit_store}
+use Rattle.word_calls.proofs.Laws.{unfit_leaves, refused_leaves, handed_leaves, unfit_store, fit_store}
 use Rattle.word_calls.proofs.submit.Goals as goal
 
-pub returns-then-not-fields_fit : goal.returns-then-not-fields_fit
-returns-then-not-fields_fit c =
+pub returns-in_err-new : goal.returns-in_err-new
+returns-in_err-new c old =
     let a = c.args in
     let words = a.words.now in
-    let old = a.number.now in
-    let store = a.store.now in
-    let lent = a.pixels.now in
     let call : Service → Result = λ r. submit_of current_rules r a.store.now (choice_of a.choice) a.shape a.steps a.width a.height a.pixels.now in
-    let unfit = sym c.fields_fit.ensures ∙ not-true _ c.if-not-fields_fit.true-raw in
-    record {
-      leaves = unfit_leaves call words old store lent unfit;
-      store_after = unfit_store call words old store lent unfit;
-    }
+    let unfit = c.in_err-new.ensures.1 in
+    let refused : ◌≡◌ {A = Answered} c.from_residual.result (Err RecordOutOfOrder) = search rules in (
+      rw refused (unfit_leaves call words old a.store.now a.pixels.now unfit),
+      unfit_store call words old a.store.now a.pixels.now unfit,
+    )
 
-pub service_of-service-requires : goal.service_of-service-requires
-service_of-service-requires c = (let it-good : fields_fit current_rules c.args.words.now ≡ true = sym c.fields_fit.ensures ∙ not-false _ c.if-not-fields_fit.false-raw in it-good)
+pub returns-in_err-answer : goal.returns-in_err-answer
+returns-in_err-answer c old =
+    let a = c.args in
+    let words = a.words.now in
+    let call : Service → Result = λ r. submit_of current_rules r a.store.now (choice_of a.choice) a.shape a.steps a.width a.height a.pixels.now in
+    let fit : fields_fit current_rules words ≡ true = search rules in
+    let held : c.service-service.result ≡ service_of current_rules words = search rules in
+    let named = c.from-named.ensures in
+    let left = rw named at c.submit_by.ensures in
+    let refused : ◌≡◌ {A = Answered} c.from_residual-in_err-answer.result c.submit_by.result = search rules in
+    let code : ◌≡◌ {A = Answered} c.from_residual-in_err-answer.result (Err c.in_err-answer.field-0.0) = search rules in (
+      refused_leaves call words old a.store.now a.pixels.now fit c.service-service.result held _ (refused ∙ left.0) _ code,
+      fit_store call words old a.store.now a.pixels.now fit c.service-service.result held _ left.2,
+    )
 
 pub hand_out-requires : goal.hand_out-requires
-hand_out-requires c = fit_length _ _ ((let it-good : fields_fit current_rules c.args.words.now ≡ true = sym c.fields_fit.ensures ∙ not-false _ c.if-not-fields_fit.false-raw in it-good))
+hand_out-requires c =
+    let fit : fields_fit current_rules c.args.words.now ≡ true = search rules in
+    fit_length current_rules c.args.words.now fit
 
 pub returns : goal.returns
-returns c =
-    let named = c.choice_of-named.ensures in
-    let held = c.service_of-service.ensures in
-    let fit = (let it-good : fields_fit current_rules c.args.words.now ≡ true = sym c.fields_fit.ensures ∙ not-false _ c.if-not-fields_fit.false-raw in it-good) in
+returns c old =
     let a = c.args in
     let words = a.words.now in
-    let old = a.number.now in
-    let store = a.store.now in
-    let lent = a.pixels.now in
     let call : Service → Result = λ r. submit_of current_rules r a.store.now (choice_of a.choice) a.shape a.steps a.width a.height a.pixels.now in
-    record {
-      leaves = fit_leaves call words old store lent fit _ held _ _ _ _ (rw named at c.submit_by-called.ensures.0) (c.hand_out.ensures.value, (c.hand_out.ensures.words_after, c.hand_out.ensures.answered_after));
-      store_after = fit_store call words old store lent fit _ held _ (rw named at c.submit_by-called.ensures.1);
-    }
+    let fit : fields_fit current_rules words ≡ true = search rules in
+    let held : c.service-service.result ≡ service_of current_rules words = search rules in
+    let named = c.from-named.ensures in
+    let left = rw named at c.submit_by.ensures in
+    let answered : ◌≡◌ {A = Answered} c.hand_out.result c.submit_by.result = search rules in
+    let written = c.hand_out.ensures in (
+      handed_leaves call words old a.store.now a.pixels.now fit c.service-service.result held _ (answered ∙ left.0) _ left.1 _ (rw written.value written.words_after),
+      fit_store call words old a.store.now a.pixels.now fit c.service-service.result held _ left.2,
+    )

@@ -1,19 +1,9 @@
 -- `job_printer::divisor::divisor` meets its contract. The loop's invariant: the divisor of the two numbers at hand is that of the two
 -- given. The measure is the second one, which a remainder by it is below. Assumes nothing.
 use mathlib.Core.Path.{◌≡◌}
-use native.Mathlib.Nat.{mod-lt}
 use native.Mathlib.Omega.{arith}
 use Rattle.job_printer.proofs.Divisors.{with_zero, with_remainder}
 use Rattle.job_printer.proofs.divisor.divisor.Goals as goal
-
-pub loop-rest-init : goal.loop-rest-init
-loop-rest-init c = λ g h. h
-
-pub nonzero_rem-remainder : goal.nonzero_rem-remainder
-nonzero_rem-remainder c = omega arith
-
-pub loop-rest-smaller : goal.loop-rest-smaller
-loop-rest-smaller c = mod-lt c.loop-rest.found (omega arith)
 
 pub loop-rest-preserved : goal.loop-rest-preserved
 loop-rest-preserved c = let l = c.loop-rest in λ g h. l.invariant g (with_remainder l.found l.rest g h)
