@@ -90,15 +90,19 @@ crates_needed() {
 
 # Runs a command in a crate's folder, all that it says kept in the log. Each 20 seconds that it takes are told.
 at_work() { # CRATE COMMAND..
-    local crate=$1 status
+    local crate=$1 got="" part code
     shift
     exec 3< <((cd "crates/$crate" && "$@") </dev/null >>"$log" 2>&1; echo $?)
-    until IFS= read -r -t 20 -u 3 status; do
-        [ $? -gt 128 ] || return 1
+    # a read whose time is up keeps what had come by then: a status that comes at that moment can be in two parts
+    while true; do
+        code=0
+        IFS= read -r -t 20 -u 3 part || code=$?
+        got=$got$part
+        [ "$code" -gt 128 ] || break
         printf 'proving: %s, at work (%d s)\n' "$crate" "$SECONDS"
     done
     exec 3<&-
-    return "$status"
+    return "${got:-1}"
 }
 
 # What the library or bench is made of, and itself. While it stays the same it is not made again, nor the tool that links the library: rt

@@ -263,9 +263,20 @@ def cycle_in(calls):
     return next(filter(None, (found(one, []) for one in sorted(calls, key=repr))), None)
 
 
+HEAD = re.compile(r' *(?:pub(?:\(\w+\))? )?(?:extern "C" )?fn (\w+)')
+
+
 def functions_in(source):
-    """The names of the functions of a source text."""
-    return re.findall(r'(?m)^ *(?:pub )?(?:extern "C" )?fn (\w+)', re.sub(r"//[^\n]*", "", source))
+    """The names of the functions of a source text that have a body, each as often as it stands there. One that a trait asks for has none: before
+    the line that opens a body a line of it ends with a semicolon."""
+    lines = re.sub(r"//[^\n]*", "", source).splitlines()
+    found = []
+    for place, line in enumerate(lines):
+        if head := HEAD.match(line):
+            ends = (part.rstrip() for part in lines[place:])
+            if next(part for part in ends if part.endswith(";") or part.strip() == "{" or re.match(r" *(?!requires|ensures).*[{]$", part)).endswith("{"):
+                found.append(head[1])
+    return found
 
 
 def read_mir(rlib):
@@ -302,9 +313,11 @@ def mir_of_library(proofs, crate, texts):
 
 
 def not_there(crate, mir, sources):
-    """The functions of the source that are not in the MIR of a crate."""
-    seen = {name.rsplit("::", 1)[1] for name in mir if name.startswith(f"{crate}::")} | ({"main"} if f"{crate}::{MAIN}" in mir else set())
-    return [f"{crate}::{name} is not in the MIR" for source in sources for name in functions_in(source) if name not in seen]
+    """The functions of the source that are not in the MIR of a crate, or not as often. A closure there has the name of what it is handed to."""
+    seen = collections.Counter(name.rsplit("::", 1)[1] for name in mir if name.startswith(f"{crate}::") and "::fn::" not in name)
+    seen["main"] += f"{crate}::{MAIN}" in mir
+    written = collections.Counter(name for source in sources for name in functions_in(source))
+    return [f"{crate}::{name} is not in the MIR" + (f" {written[name]} times" if seen[name] else "") for name in written if seen[name] < written[name]]
 
 
 def faults_of(own, kit):
@@ -554,7 +567,10 @@ def self_test():
         calls = names_of(calls)
         assert calls == SMALL_CALLS and faults == [], (calls, faults)
         assert not_there("small", mir, [SMALL["crates/small/src/lib.rt"], SMALL["crates/small/src/down.rt"]]) == []
-        assert not_there("small", mir, ["pub fn left_out() {}"]) == ["small::left_out is not in the MIR"]
+        assert not_there("small", mir, ["pub fn left_out() {\n}"]) == ["small::left_out is not in the MIR"]
+        assert not_there("small", mir, ["    pub(crate) fn left_out(\n        n: u64,\n    ) -> u64\n        ensures { result ≡ n }\n    {\n"]) == ["small::left_out is not in the MIR"]
+        assert not_there("small", mir, ["fn twice(n: u64) -> u64 {\n}", "    fn twice(self) {\n    }"]) == ["small::twice is not in the MIR 2 times"]
+        assert not_there("small", mir, ["pub trait Asks {\n    fn asked(self)\n        requires { n ≡ n }\n        ensures { n ≡ n };\n}"]) == []
         assert cycle_in({name: calls[name] for name in ("small::last", "small::twice")}) is None
         assert cycle_in({name: calls[name] for name in calls if "down" in name}) == ["small::down::back", "small::down::turn", "small::down::back"]
         assert "it calls itself: small::divisor calls small::divisor" in faults_of({name: mir[name] for name in mir if "down" not in name}, {})[1]

@@ -39,16 +39,16 @@
  *   13184  vokhsaot_run_matrix_by
  *   13168  vokhsaot_run_oval_by, vokhsaot_run_round_by
  *   12832  vokhsaot_tick
- *    5008  vokhsaot_run_in_place_matrix_by
- *    4992  vokhsaot_run_in_place_oval_by, vokhsaot_run_in_place_round_by
- *    2640  vokhsaot_change_over
- *     992  vokhsaot_submit_matrix_by
- *     976  vokhsaot_submit_round_by
- *     960  vokhsaot_submit_oval_by
- *     688  vokhsaot_collect
- *     672  vokhsaot_withdraw
- *     592  vokhsaot_free_count
- *     392  vokhsaot_opening
+ *    5024  vokhsaot_run_in_place_matrix_by
+ *    5008  vokhsaot_run_in_place_oval_by, vokhsaot_run_in_place_round_by
+ *    2608  vokhsaot_change_over
+ *     960  vokhsaot_submit_matrix_by
+ *     944  vokhsaot_submit_round_by
+ *     928  vokhsaot_submit_oval_by
+ *     640  vokhsaot_collect
+ *     624  vokhsaot_withdraw
+ *     560  vokhsaot_free_count
+ *     376  vokhsaot_opening
  *     152  vokhsaot_kernel_matrix_by, vokhsaot_kernel_oval_by, vokhsaot_kernel_round_by
  *     120  vokhsaot_covariance_oval, vokhsaot_covariance_round
  *      56  vokhsaot_directional

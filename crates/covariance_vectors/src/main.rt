@@ -219,19 +219,17 @@ impl Tally {
         }
     }
 
-    // The input to its end, to a read that fails, or to its first 64 MiB.
-    fn of(input: impl Read + Drop) -> Self {
+    // The input, at most 1024 spaces full of it, to one that stays empty: a terminal gives more after the end of a file.
+    fn of(input: &mut impl Read) -> Self {
         let mut tally = Tally::new();
-        let mut input = input.take(0x400_0000);
         let mut space = [0u8; 0x1_0000];
-        for _ in 0..u64::MAX {
-            match input.read(&mut space) {
-                Ok(0) | Err(_) => break,
-                Ok(size) => {
-                    for byte in &space[..size] {
-                        tally.push(*byte);
-                    }
-                }
+        for _ in 0..1024 {
+            let size = read_full(input, &mut space);
+            if size == 0 {
+                break;
+            }
+            for byte in &space[..size] {
+                tally.push(*byte);
             }
         }
         tally
@@ -250,6 +248,22 @@ impl Tally {
     }
 }
 
+// Reads until the space is full, the input ends or a read fails, and answers how many bytes it put at the start of the space. A read
+// may give less than it was asked for, so the next one goes on behind it: std's methods that read to the end want a heap.
+fn read_full(input: &mut impl Read, space: &mut [u8]) -> usize
+    ensures { result ≤ length space.new }
+{
+    let mut done = 0;
+    while done < space.len() {
+        match input.read(&mut space[done..]) {
+            Ok(0) | Err(_) => return done,
+            Ok(more) => done += more,
+        }
+    }
+    done
+}
+
 fn main(rt: HostRuntime) -> io::Result<()> {
-    Tally::of(rt.stdin()).report(&rt)
+    let mut input = rt.stdin();
+    Tally::of(&mut input).report(&rt)
 }

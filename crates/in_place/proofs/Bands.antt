@@ -157,16 +157,13 @@ module _ (k : Kernel) (w h : ℕ) (old picture line : List ℕ) (v : Starts) (y 
           ∙ sym (part_at (y * w) (n * w) (step_of k w h old) i (omega (arith, row, lx)))
 
 -- ---- a band that waited is put in its place, and another one waits
-pub put_down : (k : Kernel) (w h : ℕ) (old picture waiting fresh : List ℕ) (y n r : ℕ) {o : List ℕ} → y * w + n * w ≤ length picture → n * w ≤ length waiting
-    → Waiting k w h old picture waiting y n → take (r * w) fresh ≡ part ((y + n) * w) (r * w) (step_of k w h old) → o ≡ paste picture (y * w) waiting (n * w)
-    → Waiting k w h old o fresh (y + n) r
-put_down k w h old picture waiting fresh y n r {o} inside long w₀ next e =
-    let i : ℕ = y * w in
-    let s : ℕ = n * w in
-    let end : i + s ≡ (y + n) * w = omega arith in
+pub put_down : (k : Kernel) (w h : ℕ) (old picture waiting fresh : List ℕ) (i s r : ℕ) {o : List ℕ} → i + s ≤ length picture → s ≤ length waiting
+    → Waiting k w h old picture waiting i s → take r fresh ≡ part (i + s) r (step_of k w h old) → o ≡ paste picture i waiting s
+    → Waiting k w h old o fresh (i + s) r
+put_down k w h old picture waiting fresh i s r inside long w₀ next e =
     record {
-      made = rw (← end) (made_more i s (step_of k w h old) picture waiting (omega (arith, inside)) long w₀.made w₀.waits e);
-      kept = rw (← end) (rw e (drop_written picture i s waiting inside long) ∙ sym (drop-drop s i picture) ∙ ap (drop s) w₀.kept ∙ drop-drop s i old);
+      made = made_more i s (step_of k w h old) picture waiting (omega (arith, inside)) long w₀.made w₀.waits e;
+      kept = rw e (drop_written picture i s waiting inside long) ∙ sym (drop-drop s i picture) ∙ ap (drop s) w₀.kept ∙ drop-drop s i old;
       waits = next;
     }
 

@@ -41,11 +41,11 @@ pub record Place (h y n : ℕ) : Type 0 where
   pub inside : y + n ≤ h
   pub more : y < h → 1 ≤ n
 
--- the rows before row y are made, those from there on are as they were, and n made ones wait in a line
-pub record Waiting (k : Kernel) (w h : ℕ) (old picture line : List ℕ) (y n : ℕ) : Type 0 where
-  pub made : take (y * w) picture ≡ take (y * w) (step_of k w h old)
-  pub kept : drop (y * w) picture ≡ drop (y * w) old
-  pub waits : take (n * w) line ≡ part (y * w) (n * w) (step_of k w h old)
+-- the pixels before i are made, those from i on are as they were, and s made ones wait in a line
+pub record Waiting (k : Kernel) (w h : ℕ) (old picture line : List ℕ) (i s : ℕ) : Type 0 where
+  pub made : take i picture ≡ take i (step_of k w h old)
+  pub kept : drop i picture ≡ drop i old
+  pub waits : take s line ≡ part i s (step_of k w h old)
 
 -- room for n rows in a line
 pub record Room (w n : ℕ) : Type 0 where

@@ -83,6 +83,7 @@ fn put(picture: &mut [u16], at: usize, line: &[u16], size: usize)
     picture[at..end].copy_from_slice(&line[..size]);
 }
 
+// Lent to what is done for each band: a copy of it for each band takes as long as some pixels.
 impl Plan {
     fn new(coefficients: Coefficients, width: usize, height: usize) -> Plan
         requires sides { OnePicture (width * height) width height }
@@ -98,11 +99,11 @@ impl Plan {
     }
 
     // The first and the last pixel of the row at an index of a band. Beside them stands the pixel itself, where the image ends.
-    fn make_ends_of(self, source: &[u16], starts: Starts, line: &mut [u16], row: usize)
-        requires { RowInside (length source.now) starts (length line.old) row self.width }
-        ensures row_after { get_or line.new row 0 ≡ average_of (kernel_of_coefficients self.coefficients) (column_in source.now starts row) (column_in source.now starts row) (column_in source.now starts (row + min 1 (self.width - 1))) }
-        ensures width_after { get_or line.new (row + (self.width - 1)) 0 ≡ average_of (kernel_of_coefficients self.coefficients) (column_in source.now starts (row + (self.width - 2))) (column_in source.now starts (row + (self.width - 1))) (column_in source.now starts (row + (self.width - 1))) }
-        ensures by_index { (i : ℕ) → (i < row → get_or line.new i 0 ≡ get_or line.old i 0) × (row < i → i < row + (self.width - 1) → get_or line.new i 0 ≡ get_or line.old i 0) × (row + self.width ≤ i → get_or line.new i 0 ≡ get_or line.old i 0) }
+    fn make_ends_of(&self, source: &[u16], starts: Starts, line: &mut [u16], row: usize)
+        requires { RowInside (length source.now) starts (length line.old) row self.now.width }
+        ensures row_after { get_or line.new row 0 ≡ average_of (kernel_of_coefficients self.now.coefficients) (column_in source.now starts row) (column_in source.now starts row) (column_in source.now starts (row + min 1 (self.now.width - 1))) }
+        ensures width_after { get_or line.new (row + (self.now.width - 1)) 0 ≡ average_of (kernel_of_coefficients self.now.coefficients) (column_in source.now starts (row + (self.now.width - 2))) (column_in source.now starts (row + (self.now.width - 1))) (column_in source.now starts (row + (self.now.width - 1))) }
+        ensures by_index { (i : ℕ) → (i < row → get_or line.new i 0 ≡ get_or line.old i 0) × (row < i → i < row + (self.now.width - 1) → get_or line.new i 0 ≡ get_or line.old i 0) × (row + self.now.width ≤ i → get_or line.new i 0 ≡ get_or line.old i 0) }
     {
         let inner = to_next(self.width);
         let last = row + (self.width - 1);
@@ -117,9 +118,9 @@ impl Plan {
     }
 
     // The first and the last pixel of every row of a band.
-    fn make_ends(self, source: &[u16], band: Band, line: &mut [u16])
-        requires { BandInside (length source.now) band.starts (length line.old) band.rows self.width }
-        ensures { (j x : ℕ) → j < band.rows → x < self.width → (0 < x → x + 1 < self.width → get_or line.old (j * self.width + x) 0 ≡ band_pixel (kernel_of_coefficients self.coefficients) self.width source.now band.starts j x) → get_or line.new (j * self.width + x) 0 ≡ band_pixel (kernel_of_coefficients self.coefficients) self.width source.now band.starts j x }
+    fn make_ends(&self, source: &[u16], band: Band, line: &mut [u16])
+        requires { BandInside (length source.now) band.starts (length line.old) band.rows self.now.width }
+        ensures { (j x : ℕ) → j < band.rows → x < self.now.width → (0 < x → x + 1 < self.now.width → get_or line.old (j * self.now.width + x) 0 ≡ band_pixel (kernel_of_coefficients self.now.coefficients) self.now.width source.now band.starts j x) → get_or line.new (j * self.now.width + x) 0 ≡ band_pixel (kernel_of_coefficients self.now.coefficients) self.now.width source.now band.starts j x }
     {
         for j in 0..band.rows {
             self.make_ends_of(source, band.starts, line, j * self.width);
@@ -127,9 +128,9 @@ impl Plan {
     }
 
     // The pixels of a band between its first and its last one: right but at the ends of rows, however wide these are.
-    fn make_inside(self, source: &[u16], starts: Starts, line: &mut [u16], size: usize)
+    fn make_inside(&self, source: &[u16], starts: Starts, line: &mut [u16], size: usize)
         requires { Inside (length source.now) starts size × (size ≤ length line.old) }
-        ensures { (w j x : ℕ) → j * w + w ≤ size → 0 < x → x + 1 < w → get_or line.new (j * w + x) 0 ≡ band_pixel (kernel_of_coefficients self.coefficients) w source.now starts j x }
+        ensures { (w j x : ℕ) → j * w + w ≤ size → 0 < x → x + 1 < w → get_or line.new (j * w + x) 0 ≡ band_pixel (kernel_of_coefficients self.now.coefficients) w source.now starts j x }
     {
         if size > 2 {
             stretch(source, starts, line, 1, size - 2, self.coefficients);
@@ -137,9 +138,9 @@ impl Plan {
     }
 
     // The pixels of a band of the next image, into a line.
-    fn make_band(self, source: &[u16], band: Band, line: &mut [u16])
-        requires { BandInside (length source.now) band.starts (length line.old) band.rows self.width }
-        ensures { (j x : ℕ) → j < band.rows → x < self.width → get_or line.new (j * self.width + x) 0 ≡ band_pixel (kernel_of_coefficients self.coefficients) self.width source.now band.starts j x }
+    fn make_band(&self, source: &[u16], band: Band, line: &mut [u16])
+        requires { BandInside (length source.now) band.starts (length line.old) band.rows self.now.width }
+        ensures { (j x : ℕ) → j < band.rows → x < self.now.width → get_or line.new (j * self.now.width + x) 0 ≡ band_pixel (kernel_of_coefficients self.now.coefficients) self.now.width source.now band.starts j x }
     {
         let size = band.rows * self.width;
         self.make_inside(source, band.starts, line, size);
@@ -147,16 +148,16 @@ impl Plan {
     }
 
     // Where the row nearest below the first row begins.
-    fn below_first(self) -> usize
-        ensures { result ≡ min 1 (self.height - 1) * self.width }
+    fn below_first(&self) -> usize
+        ensures { result ≡ min 1 (self.now.height - 1) * self.now.width }
     {
         if self.height > 1 { self.width } else { 0 }
     }
 
     // The first row of the next image, into a line. Above it stands the row itself, and below it too where there is no other.
-    fn make_first(self, picture: &[u16], line: &mut [u16])
-        requires { (length picture.now ≡ self.width * self.height) × (self.width ≤ length line.old) }
-        ensures { Waiting (kernel_of_coefficients self.coefficients) self.width self.height picture.now picture.now line.new 0 1 }
+    fn make_first(&self, picture: &[u16], line: &mut [u16])
+        requires { (length picture.now ≡ self.now.width * self.now.height) × (self.now.width ≤ length line.old) }
+        ensures { Waiting (kernel_of_coefficients self.now.coefficients) self.now.width self.now.height picture.now picture.now line.new 0 self.now.width }
     {
         let starts = Starts {
             above: 0,
@@ -167,11 +168,11 @@ impl Plan {
     }
 
     // The band from a row on that has another one above it: the last row by itself, or as many rows above it as a line has room for.
-    fn next_band(self, y: usize) -> Band
-        requires { (1 ≤ y) × (y < self.height) }
-        ensures starts { (result.starts.above + self.width ≡ y * self.width) × (result.starts.at ≡ y * self.width) }
-        ensures last { y + 1 ≡ self.height → (result.starts.below ≡ y * self.width) × (result.rows ≡ 1) }
-        ensures inner { y + 1 < self.height → (result.starts.below ≡ y * self.width + self.width) × (result.rows ≡ min self.room (self.height - 1 - y)) }
+    fn next_band(&self, y: usize) -> Band
+        requires { (1 ≤ y) × (y < self.now.height) }
+        ensures starts { (result.starts.above + self.now.width ≡ y * self.now.width) × (result.starts.at ≡ y * self.now.width) }
+        ensures last { y + 1 ≡ self.now.height → (result.starts.below ≡ y * self.now.width) × (result.rows ≡ 1) }
+        ensures inner { y + 1 < self.now.height → (result.starts.below ≡ y * self.now.width + self.now.width) × (result.rows ≡ min self.now.room (self.now.height - 1 - y)) }
     {
         let at = y * self.width;
         let above = at - self.width;
@@ -198,11 +199,11 @@ impl Plan {
     }
 
     // Makes the band from a row on, if there is one, in a line, and answers how many rows it has.
-    fn make_next(self, picture: &[u16], line: &mut [u16], y: usize) -> usize
-        requires picture { (length picture.now ≡ self.width * self.height) × (longest_side ≤ length line.old) }
-        requires next { (1 ≤ y) × (y ≤ self.height) }
-        ensures place { Place self.height y result × (result * self.width ≤ longest_side) }
-        ensures by_index { (old : List ℕ) → length old ≡ self.width * self.height → (y < self.height → drop ((y - 1) * self.width) picture.now ≡ drop ((y - 1) * self.width) old) → take (result * self.width) line.new ≡ part (y * self.width) (result * self.width) (step_of (kernel_of_coefficients self.coefficients) self.width self.height old) }
+    fn make_next(&self, picture: &[u16], line: &mut [u16], y: usize) -> usize
+        requires picture { (length picture.now ≡ self.now.width * self.now.height) × (longest_side ≤ length line.old) }
+        requires next { (1 ≤ y) × (y ≤ self.now.height) }
+        ensures place { Place self.now.height y result × (result * self.now.width ≤ longest_side) }
+        ensures by_index { (old : List ℕ) → length old ≡ self.now.width * self.now.height → (y < self.now.height → drop ((y - 1) * self.now.width) picture.now ≡ drop ((y - 1) * self.now.width) old) → take (result * self.now.width) line.new ≡ part (y * self.now.width) (result * self.now.width) (step_of (kernel_of_coefficients self.now.coefficients) self.now.width self.now.height old) }
     {
         if y < self.height {
             let band = self.next_band(y);
@@ -216,17 +217,17 @@ impl Plan {
     // The band from a row on waits in a line: makes the band below it, if there is one, in the other line, and puts the first one in its
     // place. Answers how many rows wait then.
     fn turn(
-        self,
+        &self,
         picture: &mut [u16],
         fresh: &mut [u16],
         waiting: &[u16],
         y: usize,
         rows: usize,
     ) -> usize
-        requires picture { (length picture.old ≡ self.width * self.height) × (longest_side ≤ length fresh.old) × (longest_side ≤ length waiting.now) }
-        requires place { Place self.height y rows × (rows * self.width ≤ longest_side) }
-        ensures place_2 { Place self.height (y + rows) result × (result * self.width ≤ longest_side) }
-        ensures by_index { (old : List ℕ) → length old ≡ self.width * self.height → Waiting (kernel_of_coefficients self.coefficients) self.width self.height old picture.old waiting.now y rows → Waiting (kernel_of_coefficients self.coefficients) self.width self.height old picture.new fresh.new (y + rows) result }
+        requires picture { (length picture.old ≡ self.now.width * self.now.height) × (longest_side ≤ length fresh.old) × (longest_side ≤ length waiting.now) }
+        requires place { Place self.now.height y rows × (rows * self.now.width ≤ longest_side) }
+        ensures place_2 { Place self.now.height (y + rows) result × (result * self.now.width ≤ longest_side) }
+        ensures by_index { (old : List ℕ) → length old ≡ self.now.width * self.now.height → Waiting (kernel_of_coefficients self.now.coefficients) self.now.width self.now.height old picture.old waiting.now (y * self.now.width) (rows * self.now.width) → Waiting (kernel_of_coefficients self.now.coefficients) self.now.width self.now.height old picture.new fresh.new ((y + rows) * self.now.width) (result * self.now.width) }
     {
         let next = y + rows;
         let made = self.make_next(picture, fresh, next);

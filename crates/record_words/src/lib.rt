@@ -188,7 +188,7 @@ impl RecordWords<'_> {
         orderly & (filled < PLACES) & (served < PLACES)
     }
 
-    // The slot whose turn it is: of each slot the steps left alone are read, which `slots::find` would ask a whole slot for.
+    // The slot whose turn it is: of each slot the steps left alone are read, which `slots::find_with_steps_left` would ask a whole slot for.
     pub fn find_left(&self) -> Option<usize>
         requires { in_order current_rules (service_of current_rules self.now.words.now) ≡ true }
         ensures { result ≡ served_place current_rules (service_of current_rules self.now.words.now) }
@@ -235,16 +235,12 @@ fn put_words(words: &mut [u64], start: usize, numbers: &[u64])
     words[start..start + numbers.len()].copy_from_slice(numbers);
 }
 
-// The words of a record: each of them is written. Refusal 9 where there are not 75 words, and then none is.
+// The words of a record: each of them is written.
 #[tactic(auto, using(crate::proofs::Laws::slots_written_none, crate::proofs::Laws::slots_written_more))]
-pub fn write_service(words: &mut [u64], service: &Service) -> Result<(), ErrorCode>
-    ensures value { result ≡ (if eqb (length words.old) (word_count current_rules) then Ok tt else Err WrongLength) }
-    ensures words_after { words.new ≡ (if eqb (length words.old) (word_count current_rules) then with_service current_rules service.now words.old else words.old) }
+pub fn write_service(words: &mut [u64], service: &Service)
+    requires { length words.old ≡ word_count current_rules }
+    ensures { words.new ≡ with_service current_rules service.now words.old }
 {
-    let count = words.len();
-    if count != WORDS {
-        return Err(ErrorCode::WrongLength);
-    }
     for (place, slot) in service.slots.iter().enumerate() {
         put_words(words, SLOT_WORDS * place, &slot_words(slot));
     }
@@ -254,6 +250,18 @@ pub fn write_service(words: &mut [u64], service: &Service) -> Result<(), ErrorCo
         u64::from(service.served),
     ];
     put_words(words, GIVEN, &rest);
+}
+
+// The same for words of which there may be any number: refusal 9 where there are not 75, and then none is written.
+pub fn try_write_service(words: &mut [u64], service: &Service) -> Result<(), ErrorCode>
+    ensures value { result ≡ (if eqb (length words.old) (word_count current_rules) then Ok tt else Err WrongLength) }
+    ensures words_after { words.new ≡ (if eqb (length words.old) (word_count current_rules) then with_service current_rules service.now words.old else words.old) }
+{
+    let count = words.len();
+    if count != WORDS {
+        return Err(ErrorCode::WrongLength);
+    }
+    write_service(words, service);
     Ok(())
 }
 

@@ -3,12 +3,14 @@
 ghost use Rattle.std.specs.Prelude.{◌≡◌, ◌↔◌, ◌*◌, IsTrue};
 ghost use Rattle.row_core.specs.Weights.{ProductsOf};
 
-// Opposite weights are equal, so five stand for nine: each has the name of its two offsets, and the last that of the centre.
+// Opposite weights are equal, so five stand for nine: each has the name of its two offsets, and the last that of the centre. Diagonal and
+// down, by which a Round kernel weighs, do not stand side by side: the compiler would fetch them as one, and make the last pixels of a row by
+// that pair, which takes up to 1.4 times as long for rows of a few pixels.
 #[derive(Clone, Copy)]
 pub struct Weights {
     pub diagonal: u32,
-    pub down: u32,
     pub across: u32,
+    pub down: u32,
     pub along: u32,
     pub centre: u32,
 }

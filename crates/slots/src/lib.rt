@@ -113,7 +113,9 @@ fn numbers_of(service: &Service) -> [u64; SLOTS]
     service.slots.map(|slot| slot.number)
 }
 
-// A number that no slot shares with an earlier one is shared with none.
+// A number that no slot shares with an earlier one is shared with none. Drawn into its callers: a slot that is handed over has to be written
+// down and read again, which takes as long as to test it.
+#[inline(always)]
 pub fn slot_fine(last: u64, before: &[u64], slot: &Slot) -> bool
     ensures { result ≡ slot_fine_after current_rules last before.now (length before.now) slot.now }
 {

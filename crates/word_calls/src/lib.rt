@@ -23,7 +23,7 @@ fn hand_out(words: &mut [u64], service: &Service, answer: Answer) -> Result<Answ
     ensures words_after { words.new ≡ words_after current_rules (Ok answer) service.now words.old }
 {
     if let Answer::Job(_) = answer {
-        record_words::write_service(words, service)?;
+        record_words::write_service(words, service);
     }
     Ok(answer)
 }
@@ -33,7 +33,7 @@ pub fn opening(words: &mut [u64]) -> Result<(), ErrorCode>
     ensures value { outcome_number result ≡ opening_code current_rules words.old }
     ensures words_after { words.new ≡ opening_words current_rules words.old }
 {
-    record_words::write_service(words, &service::opening())
+    record_words::try_write_service(words, &service::opening())
 }
 
 // Submits a job by the choice that a number names. `lent`, here and below, is whatever stands where the exported call writes the job's number.
@@ -121,5 +121,5 @@ pub fn change_over(old: &[u64], words: &mut [u64]) -> Result<(), ErrorCode>
     };
     let widened = record_words::widen(old);
     let changed = service::changed_over(RecordWords::new(&widened)?.service())?;
-    record_words::write_service(words, &changed)
+    record_words::try_write_service(words, &changed)
 }

@@ -52,4 +52,4 @@ returns c =
     let read : c.service.result ≡ service_of current_rules (widened old) = search rules in
     let made = c.changed_over.ensures ∙ ap (λ (r : Service). change_with (change_checks base_rules r) (changed_over r)) (read ∙ widened_service old long) in
     let handed = handed_out old words (sym (widened_fits old long) ∙ fits) (Ok c.in_ok-changed.changed) (sym c.in_ok-changed.was ∙ made) in
-    record { value = c.write_service.ensures.value ∙ handed.0; words_after = c.write_service.ensures.words_after ∙ handed.1 }
+    record { value = c.try_write_service.ensures.value ∙ handed.0; words_after = c.try_write_service.ensures.words_after ∙ handed.1 }

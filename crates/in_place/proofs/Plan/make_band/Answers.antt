@@ -5,6 +5,6 @@ use Rattle.in_place.proofs.Plan.make_band.Goals as goal
 
 pub returns : goal.returns
 returns c j x lj lx =
-    let w = c.args.self.width in
+    let w = c.args.self.now.width in
     let row = row_inside w c.args.band.rows j lj in
     c.make_ends.ensures j x lj lx (λ low high. c.make_inside.ensures w j x (omega (arith, row)) low high)

@@ -35,7 +35,7 @@ pub make_ends_of-requires : goal.make_ends_of-requires
 make_ends_of-requires c =
     let l = c.loop-j in
     let p = c.requires in
-    let row = row_inside c.args.self.width c.args.band.rows l.j (omega arith) in
+    let row = row_inside c.args.self.now.width c.args.band.rows l.j (omega arith) in
     record {
       some = p.some;
       image = record { above = omega (arith, row, p.image.above); at = omega (arith, row, p.image.at); below = omega (arith, row, p.image.below) };
@@ -43,16 +43,16 @@ make_ends_of-requires c =
     }
 
 pub overflow_mul-j : goal.overflow_mul-j
-overflow_mul-j c = omega (arith, row_inside c.args.self.width c.args.band.rows c.loop-j.j (omega arith), c.requires.line, c.well_formed)
+overflow_mul-j c = omega (arith, row_inside c.args.self.now.width c.args.band.rows c.loop-j.j (omega arith), c.requires.line, c.well_formed)
 
 pub loop-j-preserved : goal.loop-j-preserved
 loop-j-preserved c =
     let a = c.args in
-    let w = a.self.width in
+    let w = a.self.now.width in
     let v = a.band.starts in
     let l = c.loop-j in
     let r = c.make_ends_of in
-    let k = kernel_of_coefficients a.self.coefficients in
+    let k = kernel_of_coefficients a.self.now.coefficients in
     let o = r.new.line in
     let other = other_row k w a.source.now v l.line o (l.j * w) l.j c.requires.some refl r.ensures.row_after r.ensures.width_after r.ensures.by_index in
     let own = own_row k w a.source.now v l.line o (l.j * w) l.j c.requires.some refl r.ensures.row_after r.ensures.width_after r.ensures.by_index in

@@ -36,10 +36,10 @@ pub returns-clause-row_after : goal.returns-clause-row_after
 returns-clause-row_after c =
     let a = c.args in
     let p = c.requires in
-    first_made (kernel_of_coefficients a.self.coefficients) a.source.now a.starts a.line.now a.row a.self.width _ _ _ p.some p.line c.to_next-inner.ensures c.average_at.ensures c.average_at-2.ensures
+    first_made (kernel_of_coefficients a.self.now.coefficients) a.source.now a.starts a.line.now a.row a.self.now.width _ _ _ p.some p.line c.to_next-inner.ensures c.average_at.ensures c.average_at-2.ensures
 
 pub returns-clause-width_after : goal.returns-clause-width_after
 returns-clause-width_after c =
     let a = c.args in
     let p = c.requires in
-    last_made (kernel_of_coefficients a.self.coefficients) a.source.now a.starts a.line.now a.row a.self.width _ _ _ p.some p.line c.to_next-inner.ensures c.average_at.ensures c.average_at-2.ensures
+    last_made (kernel_of_coefficients a.self.now.coefficients) a.source.now a.starts a.line.now a.row a.self.now.width _ _ _ p.some p.line c.to_next-inner.ensures c.average_at.ensures c.average_at-2.ensures

@@ -8,4 +8,4 @@ use Rattle.in_place.proofs.Plan.make_inside.Goals as goal
 pub returns-then-size-gt2 : goal.returns-then-size-gt2
 returns-then-size-gt2 c w j x row low high =
     let a = c.args in
-    inside_made (kernel_of_coefficients a.self.coefficients) w a.size a.source.now a.line.now a.starts (omega arith) c.requires.1 c.stretch.ensures j x row low high
+    inside_made (kernel_of_coefficients a.self.now.coefficients) w a.size a.source.now a.line.now a.starts (omega arith) c.requires.1 c.stretch.ensures j x row low high

@@ -12,10 +12,13 @@ use Rattle.in_place.proofs.Plan.step.Goals as goal
 pub loop-y-init : goal.loop-y-init
 loop-y-init c =
     let p = c.args.self.sides in
+    let w = c.args.self.width in
+    let none : 0 * w ≡ 0 = omega arith in
+    let one : 1 * w ≡ w = omega arith in
     record {
       place = record { inside = p.high; more = λ l. omega arith };
       short = omega (arith, p.narrow);
-      waiting = c.make_first.ensures;
+      waiting = rw (none, one) c.make_first.ensures;
       pixels = refl;
       even_line = refl;
       odd_line = refl;

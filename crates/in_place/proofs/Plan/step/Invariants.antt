@@ -13,7 +13,7 @@ use Rattle.in_place.proofs.Plan.step.Given as goal
 pub record Progress (k : Kernel) (w h : ℕ) (old even₀ odd₀ picture even odd : List ℕ) (y rows : ℕ) : Type 0 where
   pub place : Place h y rows
   pub short : rows * w ≤ longest_side
-  pub waiting : Waiting k w h old picture even y rows
+  pub waiting : Waiting k w h old picture even (y * w) (rows * w)
   pub pixels : length picture ≡ length old
   pub even_line : length even ≡ length even₀
   pub odd_line : length odd ≡ length odd₀
