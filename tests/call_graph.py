@@ -264,17 +264,18 @@ def cycle_in(calls):
 
 
 HEAD = re.compile(r' *(?:pub(?:\(\w+\))? )?(?:extern "C" )?fn (\w+)')
+CLAUSE = re.compile(r" *(?:requires|ensures)\b")
 
 
 def functions_in(source):
-    """The names of the functions of a source text that have a body, each as often as it stands there. One that a trait asks for has none: before
-    the line that opens a body a line of it ends with a semicolon."""
+    """The names of the functions of a source text that have a body, each as often as it stands there. One that a trait asks for has none: a
+    line of it ends with a semicolon before one opens a body."""
     lines = re.sub(r"//[^\n]*", "", source).splitlines()
     found = []
     for place, line in enumerate(lines):
         if head := HEAD.match(line):
-            ends = (part.rstrip() for part in lines[place:])
-            if next(part for part in ends if part.endswith(";") or part.strip() == "{" or re.match(r" *(?!requires|ensures).*[{]$", part)).endswith("{"):
+            last = next((part for part in lines[place:] if part.rstrip().endswith(";") or "{" in part and not CLAUSE.match(part)), "{")
+            if "{" in last and not CLAUSE.match(last):
                 found.append(head[1])
     return found
 
@@ -567,7 +568,8 @@ def self_test():
         calls = names_of(calls)
         assert calls == SMALL_CALLS and faults == [], (calls, faults)
         assert not_there("small", mir, [SMALL["crates/small/src/lib.rt"], SMALL["crates/small/src/down.rt"]]) == []
-        assert not_there("small", mir, ["pub fn left_out() {\n}"]) == ["small::left_out is not in the MIR"]
+        assert not_there("small", mir, ["pub fn left_out() {}"]) == ["small::left_out is not in the MIR"]
+        assert not_there("small", mir, ["fn left_out() -> u64 { 1 }\n\nconst N: u64 = 3;\n"]) == ["small::left_out is not in the MIR"]
         assert not_there("small", mir, ["    pub(crate) fn left_out(\n        n: u64,\n    ) -> u64\n        ensures { result ≡ n }\n    {\n"]) == ["small::left_out is not in the MIR"]
         assert not_there("small", mir, ["fn twice(n: u64) -> u64 {\n}", "    fn twice(self) {\n    }"]) == ["small::twice is not in the MIR 2 times"]
         assert not_there("small", mir, ["pub trait Asks {\n    fn asked(self)\n        requires { n ≡ n }\n        ensures { n ≡ n };\n}"]) == []

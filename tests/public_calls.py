@@ -17,7 +17,7 @@ from believed import INNER, ROOT, crates
 
 HEAD = re.compile(r'(?m)^ *pub (?:extern "C" )?fn (\w+)')
 # an impl of a trait, to its end at the margin, and the functions in it, which are as public as the trait
-IMPL = re.compile(r"(?ms)^impl\b[^{;]*? for .*?^}")
+IMPL = re.compile(r"(?ms)^(?:unsafe )?impl\b[^{]*? for .*?^}")
 METHOD = re.compile(r"(?m)^ +fn (\w+)")
 LAW = re.compile(r"ghost \w+ = \{[^\n]*")
 KERNEL = re.compile(r":\s*(?:&(?:mut )?)?(?:'\w+ )?(?:kernel::)?(Kernel|KernelAnswer|Coefficients)\b")
@@ -34,7 +34,7 @@ def parts(text, head):
             break
     # a function without clauses opens its body on the line that ends its head
     first = text[end:].partition("\n")[0]
-    if first.endswith("{"):
+    if "{" in first and not re.search(r"\b(requires|ensures)\b", first):
         return text[start:end], first
     body = re.compile(r"(?m)^ *\{\s*$").search(text, end)
     return text[start:end], text[end:body.start()]
@@ -72,6 +72,9 @@ KNOWN = [
     ("impl From<u32> for Choice {\n    ghost from_gives = { λ n c. c ≡ choice_of n };\n\n    fn from(n: u32) -> Choice\n        requires { n < 2 }\n    {\n        Choice\n    }\n}\n", ["from asks something of its caller"]),
     ("impl<'a> From<u32> for Choice<'a> {\n    fn from(n: u32) -> Choice {\n        Choice\n    }\n}\n", ["from has no contract on what it answers"]),
     ("impl From<Kernel> for Choice {\n    ghost from_gives = { λ k c. c ≡ choice_of k };\n\n    fn from(kernel: Kernel) -> Choice {\n        Choice\n    }\n}\n", ["from takes a kernel"]),
+    ("pub fn answer(n: u64) -> u64 { n }\n\npub fn other(n: u64) -> u64\n    ensures { result ≡ n }\n{\n    n\n}\n", ["answer has no contract on what it answers"]),
+    ("pub fn answer(n: u64) -> u64 ensures {\n        result ≡ n }\n    requires { n < 2 }\n{\n    n\n}\n", ["answer asks something of its caller"]),
+    ("impl From<[u32; 4]> for Choice {\n    ghost from_gives = { λ n c. c ≡ choice_of n };\n\n    fn from(n: [u32; 4]) -> Choice\n        requires { n < 2 }\n    {\n        Choice\n    }\n}\n", ["from asks something of its caller"]),
     ("impl Choice {\n    fn inner(n: u32) -> u32\n        requires { n < 2 }\n    {\n        n\n    }\n}\n", []),
 ]
 
